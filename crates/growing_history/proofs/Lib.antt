@@ -19,3 +19,4 @@ pub mod ServiceLaws
 pub mod Lives
 pub mod WaitsAlong
 pub mod SealedNumbers
+pub mod Unmarked

@@ -1,7 +1,9 @@
 pub mod Steps
 pub mod LogState
+pub mod Away
 pub mod Entries
 pub mod SealedTexts
+pub mod FirstGeneration
 pub mod Views
 pub mod Plays
 pub mod Calls

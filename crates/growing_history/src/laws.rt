@@ -12,7 +12,9 @@ ghost use Rattle.pair_history.specs.Reached.{IsReached};
 ghost use Rattle.pair_history.specs.Released.{account, WasSent};
 ghost use Rattle.growing_history.specs.Steps.{Added, PrimaryFailed, BackupFailed, WentLive, Protected, Step, step, Begins, steps_by};
 ghost use Rattle.growing_history.specs.LogState.{LogState, start_of, under_way, added, after, Needs, Legal, state_at, history_of};
-ghost use Rattle.growing_history.specs.LogState.{line_seat, client_seat, sealed_state, IsAlone, is_filling, IsEpoch, first_frames};
+ghost use Rattle.growing_history.specs.Away.{WhileAway, WhileBackupIsAway, WhileRunnerIsAway};
+ghost use Rattle.growing_history.specs.FirstGeneration.{AreUnmarked, CommitsSealed};
+ghost use Rattle.growing_history.specs.LogState.{first_backup, line_seat, client_seat, sealed_state, IsAlone, is_filling, IsEpoch, first_frames};
 ghost use Rattle.growing_history.specs.SealedTexts.{IsMade, AreMade, MakeInTurn};
 ghost use Rattle.growing_history.specs.Entries.{own_entries, announced, IsCall};
 ghost use Rattle.growing_history.specs.Service.{Answers};
@@ -106,26 +108,22 @@ pub fn a_call_is_a_point_of_one_history()
 /// it sent. A backup whose pair isn't alone now wasn't alone then; it is filled now where it was filled then, and then the history has
 /// the guest that it had.
 pub fn live_members_miss_nothing()
-    ensures handed { (h : HistoryState) (old now : List Step) (n : ℕ) → Begins old now → Legal h now → steps_by n now ≡ steps_by n old
-        → (state_at h old).runner ≡ n → (state_at h now).runner ≡ n → (state_at h now).handed ≡ (state_at h old).handed }
-    ensures runner { (h : HistoryState) (old now : List Step) (n : ℕ) → Begins old now → Legal h now → steps_by n now ≡ steps_by n old
-        → (state_at h old).runner ≡ n → (state_at h now).runner ≡ n → (state_at h now).marked ≡ 0
-        → (sealed_state (state_at h now)).guest ≡ (sealed_state (state_at h old)).guest }
-    ensures frames { (h : HistoryState) (old now : List Step) (n : ℕ) → Begins old now → Legal h now → steps_by n now ≡ steps_by n old
-        → (state_at h old).runner ≡ n → (state_at h now).runner ≡ n → (state_at h now).marked ≡ 0
+    ensures handed { (h : HistoryState) (old now : List Step) (n : ℕ)
+        → WhileRunnerIsAway n h old now ((state_at h now).handed ≡ (state_at h old).handed) }
+    ensures runner { (h : HistoryState) (old now : List Step) (n : ℕ) → WhileRunnerIsAway n h old now
+        ((state_at h now).marked ≡ 0 → (sealed_state (state_at h now)).guest ≡ (sealed_state (state_at h old)).guest) }
+    ensures frames { (h : HistoryState) (old now : List Step) (n : ℕ) → WhileRunnerIsAway n h old now ((state_at h now).marked ≡ 0
         → (before later : List ℕ) (m : ℕ) (f : Frame) → (state_at h old).handed ≡ before ++ m ∷ later
         → frame_numbered m (sealed_state (state_at h old)).waiting ≡ Some f
-        → frame_numbered m (sealed_state (state_at h now)).waiting ≡ Some f }
-    ensures epoch { (h : HistoryState) (old now : List Step) (n : ℕ) → Begins old now → Legal h now → steps_by n now ≡ steps_by n old
-        → (state_at h old).runner ≡ n → (state_at h now).runner ≡ n → (state_at h now).marked ≡ 0
+        → frame_numbered m (sealed_state (state_at h now)).waiting ≡ Some f) }
+    ensures epoch { (h : HistoryState) (old now : List Step) (n : ℕ) → WhileRunnerIsAway n h old now ((state_at h now).marked ≡ 0
         → (epoch : List Entry) → IsEpoch (state_at h old) epoch
         → ((at (sealed_state (state_at h now)) epoch).guest ≡ (at (sealed_state (state_at h old)) epoch).guest)
-        × (sent_along (sealed_state (state_at h now)) epoch ≡ sent_along (sealed_state (state_at h old)) epoch) }
-    ensures backup { (h : HistoryState) (old now : List Step) (n : ℕ) → Begins old now → Legal h now → steps_by n now ≡ steps_by n old
-        → (state_at h old).backup ≡ n → (state_at h now).backup ≡ n → (IsAlone (state_at h now).mode → ⊥)
+        × (sent_along (sealed_state (state_at h now)) epoch ≡ sent_along (sealed_state (state_at h old)) epoch)) }
+    ensures backup { (h : HistoryState) (old now : List Step) (n : ℕ) → WhileBackupIsAway n h old now ((IsAlone (state_at h now).mode → ⊥)
         → (IsAlone (state_at h old).mode → ⊥)
         × (is_filling (state_at h now).mode ≡ is_filling (state_at h old).mode)
-        × (is_filling (state_at h old).mode ≡ false → (state_at h now).history.guest ≡ (state_at h old).history.guest) }
+        × (is_filling (state_at h old).mode ≡ false → (state_at h now).history.guest ≡ (state_at h old).history.guest)) }
 {
     client_entries_go_first();
 }
@@ -143,6 +141,16 @@ pub fn sealed_texts_make_their_guests<T: Texts>()
 {
     client_entries_go_first();
 }
+
+/// In the first generation only the first backup commits. So no commit of it is marked where that backup commits nothing but what was
+/// sealed: steps of others make no mark, and neither does its own commit of a text that it had seen sealed under that generation and
+/// number.
+pub fn sealed_commits_make_no_mark()
+    ensures others { (h : HistoryState) (old now : List Step)
+        → WhileAway first_backup h old now (AreUnmarked h old → AreUnmarked h now) }
+    ensures own { (h : HistoryState) (old now : List Step) → CommitsSealed old now → Legal h now → AreUnmarked h old → AreUnmarked h now }
+    ensures start { (h : HistoryState) → AreUnmarked h [] }
+{}
 
 /// What all of it is for, said without seats. Of any legal list of steps, unless a commit is marked:
 ///

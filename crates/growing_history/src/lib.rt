@@ -18,8 +18,8 @@ pub use laws::{
     Texts, a_call_is_a_point_of_one_history, a_whole_life_is_legal,
     clients_have_one_guest_that_never_fails, failures_follow_the_table,
     handed_out_frames_can_arrive, live_members_miss_nothing, live_numbers_rise,
-    own_entries_are_announced, sealed_texts_make_their_guests, steps_go_on,
-    unmarked_histories_are_legal,
+    own_entries_are_announced, sealed_commits_make_no_mark, sealed_texts_make_their_guests,
+    steps_go_on, unmarked_histories_are_legal,
 };
 pub use seats::{BackupSeat, Badge, ClientSeat, KeeperSeat, MemberSeat, RunnerSeat};
 pub use what::{Tells, What};

@@ -1,9 +1,15 @@
 -- The first backup of a pair, where it commits nothing but what was sealed: in the first generation no commit is marked.
-use Rattle.std.specs.Prelude.{◌≡◌, List, Option, None, Some}
+use Rattle.std.specs.Prelude.{◌≡◌, ℕ, ◌==◌, ◌&&◌, nat_le, Bool, true, false, List, length, Option, None, Some, Result, Ok, Err}
+use Rattle.checkpoint_stream.specs.ReadBack.{ReadsBack}
+use Rattle.checkpoint_stream.specs.Readings.{Reading, begun, fed, taken, is_whole, failure_at}
+use Rattle.checkpoint_stream.specs.Sound.{change_in}
 use Rattle.checkpoint_stream.specs.Text.{text}
+use Rattle.checkpoint_stream.specs.declared.errors.StreamError.{StreamError}
+use Rattle.checkpoint_stream.specs.declared.errors.StreamError.TheVariants.{Malformed, NoMemory}
 use Rattle.epoch_snapshot.specs.Checkpoints.{Change}
 use Rattle.guest_machine.specs.declared.shapes.Shape.{Shape}
-use Rattle.growing_history.specs.LogState.{state_at, first_backup}
+use Rattle.growing_history.specs.FirstGeneration.{AreUnmarked}
+use Rattle.growing_history.specs.LogState.{first_backup, state_at}
 use Rattle.growing_history.specs.Steps.{Step, Begins}
 use Rattle.pair_book.specs.Commits.{WasRead}
 use Rattle.pair_book.specs.Packets.{PacketState}
@@ -23,10 +29,6 @@ packet_of c = record { generation = c.generation; number = c.number; text = text
 abbrev pub IsSealed : List Step → Option Change → Type 0
 IsSealed steps None = Unit {0}
 IsSealed steps (Some c) = WasSealed steps (packet_of c)
-
--- no commit of the first generation is marked
-abbrev pub AreUnmarked : HistoryState → List Step → Type 0
-AreUnmarked start steps = (state_at start steps).generation ≡ 1 → (state_at start steps).marked ≡ 0
 
 -- A packet that was sealed, and the steps of which its badge tells.
 pub record SealedState : Type 0 where
@@ -54,6 +56,28 @@ pub record HasSeen (start : HistoryState) (all : List Step) (old new : BackupSta
   pub is : new ≡ record old { seat = record { number = old.seat.number; steps = all } }
   pub looks : Looks start old.seat.number old.seat.steps all
 
+-- WHAT A PACKET'S TEXT IS to a reader of that shape, which begins with it
+
+abbrev pub text_read : Shape → PacketState → Reading
+text_read shape p = fed (begun shape 0) p.text
+
+-- so many bytes are all of the text, and that checkpoint has the packet's generation and number
+abbrev pub is_all_of : ℕ → Change → PacketState → Bool
+is_all_of count c p = nat_le (length p.text) count && (c.generation == p.generation && c.number == p.number)
+
+-- it is a whole checkpoint, to its last byte, of the packet's generation and number
+abbrev pub is_text_for : Shape → PacketState → Bool
+is_text_for shape p =
+    is_whole (text_read shape p).place && is_all_of (taken (begun shape 0) p.text) (change_in (text_read shape p)) p
+
+-- The text is that of a checkpoint of this shape, and of the packet's generation and number.
+pub record IsOfShape (shape : Shape) (p : PacketState) : Type 0 where
+  pub change : Change
+  pub reads_back : ReadsBack change p.text
+  pub of_shape : change.shape ≡ shape
+  pub generation : change.generation ≡ p.generation
+  pub number : change.number ≡ p.number
+
 -- This checkpoint was read of the packet's text, which is of that shape.
 pub record IsReadOf (shape : Shape) (p : PacketState) (c : Change) : Type 0 where
   pub of_shape : c.shape ≡ shape
@@ -66,6 +90,38 @@ pub record ReadsPacket (p : PacketState) (old new : BackupState) : Type 0 where
   pub is : new ≡ record old { read = Some change }
   pub packet : packet_of change ≡ p
 
--- clients and the first backup have looked: and in the first generation no commit is marked
+-- What is read of a packet: its checkpoint, where its text is one; a text that breaks a rule is malformed, at the unit that does; and any may
+-- be refused memory.
+abbrev pub ReadsWhole : Shape → PacketState → Result (Option Change) StreamError → Type 0
+ReadsWhole shape p (Ok (Some c)) =
+    (is_text_for shape p ≡ true) × (failure_at (text_read shape p).place ≡ None) × IsReadOf shape p c
+ReadsWhole shape p (Ok None) = (is_text_for shape p ≡ false) × (failure_at (text_read shape p).place ≡ None)
+ReadsWhole shape p (Err (Malformed offset)) = failure_at (text_read shape p).place ≡ Some offset
+ReadsWhole shape p (Err (NoMemory _)) = Unit {0}
+
+-- What is answered to a packet: whether its text is a checkpoint, as above.
+abbrev pub AnswersPacket : Shape → PacketState → Result Bool StreamError → Type 0
+AnswersPacket shape p (Ok is_read) = (is_text_for shape p ≡ is_read) × (failure_at (text_read shape p).place ≡ None)
+AnswersPacket shape p (Err (Malformed offset)) = failure_at (text_read shape p).place ≡ Some offset
+AnswersPacket shape p (Err (NoMemory _)) = Unit {0}
+
+-- What that leaves: the checkpoint in the place of what was read before, or none there; and nothing after an error.
+abbrev pub AfterPacket : PacketState → Result Bool StreamError → BackupState → BackupState → Type 0
+AfterPacket p (Ok true) old new = ReadsPacket p old new
+AfterPacket p (Ok false) old new = new ≡ record old { read = None }
+AfterPacket p (Err why) old new = new ≡ old
+
+-- Unless it was refused memory, the checkpoint is read.
+abbrev pub IsReadOrNoMemory : Result Bool StreamError → Type 0
+IsReadOrNoMemory (Ok is_read) = is_read ≡ true
+IsReadOrNoMemory (Err (Malformed offset)) = ⊥
+IsReadOrNoMemory (Err (NoMemory _)) = Unit {0}
+
+-- The backup with the seat that it has then: what it is told at the start of a call comes before all else.
+abbrev pub with_seat : BackupState → BackupState → BackupState
+with_seat old new = record old { seat = new.seat }
+
+-- clients and the first backup have looked, and the pair is in its first generation: no commit is marked
 abbrev pub HaveLookedBeside : HistoryState → Found → List ClientState → List ClientState → Type 0
-HaveLookedBeside start found old new = (all : List Step) × HasFound start all found × SeeAll start all old new × AreUnmarked start all
+HaveLookedBeside start found old new =
+    (all : List Step) × HasFound start all found × SeeAll start all old new × ((state_at start all).marked ≡ 0) × (found.generation ≡ 1)

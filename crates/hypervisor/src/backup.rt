@@ -9,7 +9,7 @@ ghost use Rattle.pair_book.specs.Settled.{just_settled, Runs};
 ghost use Rattle.hypervisor.specs.Backups.{new_backup, StandsWith, HasHistorysGuest};
 ghost use Rattle.hypervisor.specs.Commits.{Commits, MayRefuseCommit, AfterRefusedCommit, gives_up};
 ghost use Rattle.hypervisor.specs.Feeding.{Feeds};
-ghost use Rattle.hypervisor.specs.FirstBackups.{HasSeen, Hears, IsReadOf, ReadsPacket};
+ghost use Rattle.hypervisor.specs.FirstBackups.{AfterPacket, AnswersPacket, HasSeen, Hears, ReadsWhole, is_all_of};
 ghost use Rattle.hypervisor.specs.GoingLive.{BecomesLive, GoesLiveWith, live_refusals};
 ghost use Rattle.hypervisor.specs.Runners.{new_runner};
 
@@ -137,20 +137,19 @@ impl<P: Pair> Backup<P> {
     }
 
     /// Reads the checkpoint of this packet whole, in the place of what was read before; what came by [`feed`](Backup::feed) since stands.
-    /// Answers whether there is one: none where the text isn't of a checkpoint of the pair's shape.
+    /// Answers whether there is one: none where the text isn't a whole checkpoint, of the packet's generation and number.
     ///
     /// # Errors
     ///
-    /// [`StreamError::NoMemory`] where a growth was really refused, and [`StreamError::Malformed`] where the text breaks a rule: the backup
-    /// is as before.
+    /// [`StreamError::Malformed`] with the offset of the unit that breaks its rule, and [`StreamError::NoMemory`] where a growth was really
+    /// refused: the backup is as before.
     pub(crate) fn read_packet(
         &mut self,
         alloc: Global,
         packet: &Packet,
     ) -> Result<bool, StreamError>
-        ensures read { IfOk result (λ is_read. is_read ≡ true → ReadsPacket packet.now self.old self.new) }
-        ensures none { IfOk result (λ is_read. is_read ≡ false → self.new ≡ record self.old { read = None }) }
-        ensures refused { OnErr result (self.new ≡ self.old) }
+        ensures answers { AnswersPacket self.old.image.shape packet.now result }
+        ensures after { AfterPacket packet.now result self.old self.new }
     {
         self.read = read_whole(alloc, self.image.shape(), packet)?;
         Ok(self.read.is_some())
@@ -244,17 +243,18 @@ impl<P: Pair> Backup<P> {
     }
 }
 
-/// The checkpoint of this packet, of that shape; `None` where it isn't a checkpoint's.
+/// The checkpoint of this packet, of that shape; `None` where its text isn't a whole one, of the packet's generation and number.
 ///
 /// # Errors
 ///
-/// [`StreamError::NoMemory`] where a growth was really refused, and [`StreamError::Malformed`] where the text breaks a rule.
+/// [`StreamError::Malformed`] with the offset of the unit that breaks its rule, and [`StreamError::NoMemory`] where a growth was really
+/// refused.
 fn read_whole(
     alloc: Global,
     shape: Shape,
     packet: &Packet,
 ) -> Result<Option<Checkpoint>, StreamError>
-    ensures { IfOk result (λ read. IfSome read (IsReadOf shape packet.now)) }
+    ensures { ReadsWhole shape packet.now result }
 {
     read_is_its_text();
     let bytes = packet.bytes();
@@ -264,18 +264,22 @@ fn read_whole(
     let Some(checkpoint) = reader.next() else {
         return Ok(None);
     };
-    if count < bytes.len() || !is_of(&checkpoint, packet) {
+    if !is_all_of(count, &checkpoint, packet) {
         return Ok(None);
     }
     Ok(Some(checkpoint))
 }
 
-/// Whether this checkpoint has the packet's generation and number.
-fn is_of(checkpoint: &Checkpoint, packet: &Packet) -> bool
+/// Whether so many bytes are all of the packet's, and this checkpoint has its generation and number.
+fn is_all_of(count: usize, checkpoint: &Checkpoint, packet: &Packet) -> bool
+    ensures value { result ≡ is_all_of count checkpoint.now packet.now }
+    ensures all { result ≡ true → length packet.now.text ≤ count }
     ensures generation { result ≡ true → checkpoint.now.generation ≡ packet.now.generation }
     ensures number { result ≡ true → checkpoint.now.number ≡ packet.now.number }
 {
-    checkpoint.generation() == packet.generation() && checkpoint.number() == packet.number()
+    count >= packet.bytes().len()
+        && checkpoint.generation() == packet.generation()
+        && checkpoint.number() == packet.number()
 }
 
 /// The backup of this seat and this image goes live at the book.

@@ -1,14 +1,15 @@
 //! The first backup of a pair, where nothing but what was sealed comes to it.
-ghost use Rattle.std.specs.Prelude.{◌≡◌, true, None, IfOk, OnOk, OnErr, IfErr, IfSome, IsSome};
+ghost use Rattle.std.specs.Prelude.{◌≡◌, None, IfOk, OnOk, IfErr, IfSome, IsSome};
 ghost use Rattle.growing_history.specs.LogState.{first_backup};
 ghost use Rattle.hypervisor.specs.Commits.{Commits, MayRefuseCommit, AfterRefusedCommit};
-ghost use Rattle.hypervisor.specs.FirstBackups.{AreUnmarked, HasSeen, packet_of};
+ghost use Rattle.growing_history.specs.FirstGeneration.{AreUnmarked};
+ghost use Rattle.hypervisor.specs.FirstBackups.{AfterPacket, AnswersPacket, HasSeen, Hears, IsOfShape, IsReadOrNoMemory, with_seat};
 ghost use Rattle.hypervisor.specs.Opening.{unseen};
 
 use crate::backup::Backup;
 use crate::sealed_packet::SealedPacket;
 use checkpoint_stream::StreamError;
-use growing_history::{Clock, Pair};
+use growing_history::{Clock, Pair, sealed_commits_make_no_mark};
 use pair_book::{Ack, Book, Refusal};
 use std::alloc::Global;
 use std::marker::Model;
@@ -39,6 +40,7 @@ impl<P: Pair> FirstBackup<P> {
         requires read { backup.read ≡ None }
         ensures { result ≡ backup }
     {
+        sealed_commits_make_no_mark();
         FirstBackup { backup }
     }
 
@@ -51,17 +53,22 @@ impl<P: Pair> FirstBackup<P> {
     }
 
     /// Reads the checkpoint of this packet whole, in the place of what was read before, with no lock held; its seat has then seen that the
-    /// text was sealed. Answers whether there is one: none where the text isn't of a checkpoint of the pair's shape.
+    /// text was sealed. Answers whether there is one: none where the text isn't a whole checkpoint, of the packet's generation and number.
+    /// A text that was sealed is one, for a reader of its shape.
     ///
     /// # Errors
     ///
-    /// [`StreamError::NoMemory`] where a growth was really refused, and [`StreamError::Malformed`] where the text breaks a rule.
+    /// [`StreamError::Malformed`] with the offset of the unit that breaks its rule, as that of another shape does;
+    /// [`StreamError::NoMemory`] where a growth was really refused. What was read stands then.
     pub fn read(&mut self, alloc: Global, sealed: &mut SealedPacket<P>) -> Result<bool, StreamError>
-        ensures read { IfOk result (λ is_read. is_read ≡ true → IsSome self.new.read × IfSome self.new.read (λ c.
-            packet_of c ≡ sealed.old.packet)) }
-        ensures image { self.new.image ≡ self.old.image }
+        ensures answers { AnswersPacket self.old.image.shape sealed.old.packet result }
+        ensures after { AfterPacket sealed.old.packet result (with_seat self.old self.new) self.new }
+        ensures hears { Hears P.start sealed.old.seen self.old (with_seat self.old self.new) }
         ensures packet { sealed.new ≡ sealed.old }
+        // A checkpoint of the pair's shape is read wherever there is memory.
+        ensures read { IsOfShape self.old.image.shape sealed.old.packet → IsReadOrNoMemory result }
     {
+        sealed_commits_make_no_mark();
         self.backup.learn(&mut sealed.badge);
         self.backup.read_packet(alloc, &sealed.packet)
     }
@@ -77,6 +84,7 @@ impl<P: Pair> FirstBackup<P> {
         ensures why { IfErr result (MayRefuseCommit self.old.read) }
         ensures refused { IfErr result (λ why. AfterRefusedCommit why self.old self.new) }
     {
+        sealed_commits_make_no_mark();
         self.backup.commit(rt)
     }
 
@@ -86,6 +94,7 @@ impl<P: Pair> FirstBackup<P> {
         ensures seen { HasSeen P.start book.old.steps self.old self.new }
         ensures unmarked { AreUnmarked P.start book.old.steps }
     {
+        sealed_commits_make_no_mark();
         self.backup.look(book, clock);
     }
 }

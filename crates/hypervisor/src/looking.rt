@@ -1,5 +1,5 @@
 //! How far a pair has come.
-ghost use Rattle.std.specs.Prelude.{◌≡◌};
+ghost use Rattle.std.specs.Prelude.{◌≡◌, ◌≢◌, IfOk, IfErr};
 ghost use Rattle.hypervisor.specs.FirstBackups.{HaveLookedBeside};
 ghost use Rattle.hypervisor.specs.Looking.{found_at, HasFound, HaveLooked, SeeAll};
 
@@ -7,6 +7,7 @@ use crate::clients::Client;
 use crate::first_backup::FirstBackup;
 use growing_history::{Clock, Pair, clients_have_one_guest_that_never_fails};
 use pair_book::Book;
+use std::marker::Model;
 
 /// How far a pair has come.
 #[derive(Clone, Copy)]
@@ -19,6 +20,33 @@ pub struct Found {
     pub next: u64,
     /// How many checkpoints are pending.
     pub pending: u64,
+}
+
+/// The pair is in a later generation than its first, since a node has failed. Only who looked at the book of such a pair has this.
+#[derive(Debug, Drop)]
+pub struct LaterGeneration {
+    generation: u64,
+}
+
+impl Model for LaterGeneration {
+    ghost use Rattle.std.specs.Prelude.{ℕ, ◌≢◌};
+
+    ghost Value = { ℕ };
+
+    ghost view = { λ l. l.generation };
+
+    ghost invariant = { λ l. l.generation ≢ 1 };
+}
+
+impl LaterGeneration {
+    /// The number of the generation.
+    pub fn number(&self) -> u64
+        ensures number { result ≡ self.now }
+        // What is true of every one.
+        ensures later { self.now ≢ 1 }
+    {
+        self.generation
+    }
 }
 
 /// How far the pair has come; and each of these clients sees all the steps that were made.
@@ -46,17 +74,29 @@ pub(crate) fn look<P: Pair>(
     }
 }
 
-/// How far the pair has come; and each of these clients, and the first backup, sees all the steps that were made.
+/// How far the pair has come, in its first generation; and each of these clients, and the first backup, sees all the steps that were made.
+///
+/// # Errors
+///
+/// [`LaterGeneration`] where the pair is in a later one. They have looked then too.
 pub(crate) fn look_beside<P: Pair>(
     book: &mut Book<P>,
     clock: &Clock<P>,
     clients: &mut Vec<Client<P>>,
     backup: &mut FirstBackup<P>,
-) -> Found
+) -> Result<Found, LaterGeneration>
     ensures same { book.new ≡ book.old }
-    ensures found { result ≡ found_at book.old }
-    ensures looked { HaveLookedBeside P.start result clients.old.items clients.new.items }
+    ensures see { SeeAll P.start book.old.steps clients.old.items clients.new.items }
+    ensures found { IfOk result (λ found. found ≡ found_at book.old) }
+    ensures looked { IfOk result (λ found. HaveLookedBeside P.start found clients.old.items clients.new.items) }
+    ensures later { IfErr result (λ generation. generation ≡ book.old.protocol.generation) }
 {
     backup.look(book, clock);
-    look(book, clock, clients)
+    let found = look(book, clock, clients);
+    if found.generation != 1 {
+        return Err(LaterGeneration {
+            generation: found.generation,
+        });
+    }
+    Ok(found)
 }

@@ -22,7 +22,7 @@ ghost use Rattle.pair_book.specs.Made.{IsShape};
 use crate::backup::Backup;
 use crate::clients::Client;
 use crate::first_backup::FirstBackup;
-use crate::looking::{Found, look, look_beside};
+use crate::looking::{Found, LaterGeneration, look, look_beside};
 use crate::runner::Runner;
 use crate::shared::Shared;
 use backup_image::{Image, ImageError};
@@ -235,15 +235,19 @@ impl<P: Pair> Warden<P> {
         look(&mut *held, shared.clock(), clients)
     }
 
-    /// As [`look`](Warden::look), and the first backup looks too. It has committed nothing but what was sealed: so in the first generation
-    /// no commit is marked, and the history is that of one guest that never fails.
+    /// As [`look`](Warden::look), and the first backup looks too, in the pair's first generation. It has committed nothing but what was
+    /// sealed: so no commit is marked, and the history is that of one guest that never fails.
+    ///
+    /// # Errors
+    ///
+    /// [`LaterGeneration`] where a node has failed, and the pair is in a later generation.
     pub fn look_beside<R: Wait>(
         &self,
         rt: &R,
         clients: &mut Vec<Client<P>>,
         backup: &mut FirstBackup<P>,
-    ) -> Found
-        ensures { HaveLookedBeside P.start result clients.old.items clients.new.items }
+    ) -> Result<Found, LaterGeneration>
+        ensures { IfOk result (λ found. HaveLookedBeside P.start found clients.old.items clients.new.items) }
     {
         let shared = &*self.shared;
         let mut held = shared.lock(rt);

@@ -61,8 +61,10 @@ pub data IsPlayed (file : RunFile) (out out' : Writing) (status : ℕ) : Type 0 
   -- it ran, and a write failed
   cut_short : (clients : List Answered) (count : ℕ) (is_whole : Bool) → IsRunOf file clients count is_whole
       → WritesFront out out' (run_text clients count) → status ≡ 1 → IsPlayed file out out' status
-  -- it is refused, for want of memory
+  -- there is no memory for it, or no thread can be made
   refused : IsSaid out out' (codes "refused 12 NoMemory\n") → status ≡ 1 → IsPlayed file out out' status
+  -- a node has failed in it: the pair isn't in its first generation
+  later : IsSaid out out' (codes "refused 9 Stale\n") → status ≡ 1 → IsPlayed file out out' status
 
 -- Of any bytes: what standard output and standard error get, and the status.
 pub data IsRun (source : List ℕ) (out out' err err' : Writing) (status : ℕ) : Type 0 where

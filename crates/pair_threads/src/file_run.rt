@@ -1,5 +1,5 @@
 //! `remus run FILE`.
-ghost use Rattle.std.specs.Prelude.{◌≡◌, ◌≢◌, ℕ, ◌+◌, true, false, [], IfOk, codes};
+ghost use Rattle.std.specs.Prelude.{◌≡◌, ℕ, ◌+◌, true, [], IfOk, codes};
 ghost use Rattle.hypervisor.specs.Clients.{own};
 ghost use Rattle.hypervisor.specs.Opening.{new_client, start_with};
 ghost use Rattle.pair_run.specs.RunPrinted.{IsWritten, run_text};
@@ -13,7 +13,7 @@ use crate::booting::boot_pair;
 use crate::both::both;
 use crate::scripts::{Lists, Script, listed, room_for, scripts_of};
 use crate::threads::{Ended, Members, members_of, run_members};
-use hypervisor::{Found, Pair, UnnamedPair};
+use hypervisor::{Found, LaterGeneration, Pair, UnnamedPair};
 use memory_wanted::MemoryWanted;
 use pair_run::{Answered, ClientLine, RunFile, Unread, read_run, write_run};
 use script_player::sim::tell_bad_line;
@@ -38,24 +38,35 @@ struct Assigned<P: Pair> {
     members: Members<P>,
 }
 
-/// There is no memory for a run, or no thread can be made.
+/// Why nothing is told of a run.
 #[derive(Drop)]
-struct Unplayed;
+enum Unplayed {
+    /// There is no memory for it, or no thread can be made.
+    NoMemory,
+    /// A node has failed, so nothing is known of the run. Nobody in it says that one has, but no type shows it.
+    Later(LaterGeneration),
+}
 
 impl From<AllocError> for Unplayed {
     fn from(_: AllocError) -> Unplayed {
-        Unplayed
+        Unplayed::NoMemory
     }
 }
 
 impl From<MemoryWanted> for Unplayed {
     fn from(_: MemoryWanted) -> Unplayed {
-        Unplayed
+        Unplayed::NoMemory
+    }
+}
+
+impl From<LaterGeneration> for Unplayed {
+    fn from(later: LaterGeneration) -> Unplayed {
+        Unplayed::Later(later)
     }
 }
 
 /// Runs the pair of the file `source` in threads, and prints on `out` what each client was answered, and on `err` a bad line. Answers the
-/// exit status: 0, or 1 after a bad line, a refused boot line, a run that ended early or a write that failed.
+/// exit status: 0, or 1 after a bad line, a refused boot line, a run that ended early or isn't told, or a write that failed.
 pub fn run<R: Threads + Wait + Sync, O: Sink, E: Sink>(
     rt: &R,
     alloc: Global,
@@ -97,7 +108,8 @@ fn run_file<R: Threads + Wait + Sync, O: Sink>(
 {
     match play(rt, alloc, file) {
         Ok(played) => print(&played, out),
-        Err(Unplayed) => refuse(out),
+        Err(Unplayed::NoMemory) => refuse(out),
+        Err(Unplayed::Later(later)) => refuse_later(later, out),
     }
 }
 
@@ -119,24 +131,33 @@ fn status_of(is_whole: bool) -> u8
     if is_whole { 0 } else { 1 }
 }
 
-/// Prints that there is no memory. Answers the exit status.
+/// Prints that there is no memory for a run, or no thread. Answers the exit status.
 fn refuse<O: Sink>(out: &mut O) -> u8
     ensures status { result ≡ 1 }
     ensures said { IsSaid (O.written out.old) (O.written out.new) (codes "refused 12 NoMemory\n") }
 {
-    let _ = write_refused(out);
+    let _ = write_out(b"refused 12 NoMemory\n", out);
     1
 }
 
-/// Writes out that there is no memory.
+/// Prints that a run isn't of the pair's first generation, as was found. Answers the exit status.
+fn refuse_later<O: Sink>(_: LaterGeneration, out: &mut O) -> u8
+    ensures status { result ≡ 1 }
+    ensures said { IsSaid (O.written out.old) (O.written out.new) (codes "refused 9 Stale\n") }
+{
+    let _ = write_out(b"refused 9 Stale\n", out);
+    1
+}
+
+/// Writes out this text.
 ///
 /// # Errors
 ///
 /// Where a write fails.
-fn write_refused<O: Sink>(out: &mut O) -> Result<(), Failed>
-    ensures { IsWritten (O.written out.old) (O.written out.new) result (codes "refused 12 NoMemory\n") }
+fn write_out<O: Sink>(text: &[u8], out: &mut O) -> Result<(), Failed>
+    ensures { IsWritten (O.written out.old) (O.written out.new) result text.now }
 {
-    out.put(b"refused 12 NoMemory\n")?;
+    out.put(text)?;
     out.show()
 }
 
@@ -144,7 +165,7 @@ fn write_refused<O: Sink>(out: &mut O) -> Result<(), Failed>
 ///
 /// # Errors
 ///
-/// [`Unplayed`] where there is no memory for it, or a thread can't be made.
+/// [`Unplayed::NoMemory`] where there is no memory for it, or a thread can't be made; [`Unplayed::Later`] where a node has failed.
 fn play<R: Threads + Wait + Sync>(rt: &R, alloc: Global, file: RunFile) -> Result<Played, Unplayed>
     requires limits { IsInLimits (boot_line file.boot) }
     requires clients { AreClients file.boot.clients (clients_of file.clients.items) }
@@ -158,7 +179,7 @@ fn play<R: Threads + Wait + Sync>(rt: &R, alloc: Global, file: RunFile) -> Resul
 ///
 /// # Errors
 ///
-/// [`Unplayed`] where there is no memory for it, or a thread can't be made.
+/// [`Unplayed::NoMemory`] where there is no memory for it, or a thread can't be made; [`Unplayed::Later`] where a node has failed.
 fn play_named<P: Pair + Send + Sync, R: Threads + Wait + Sync>(
     rt: &R,
     alloc: Global,
@@ -174,10 +195,10 @@ fn play_named<P: Pair + Send + Sync, R: Threads + Wait + Sync>(
 {
     let lists = room_for(alloc, lines.len());
     let Some((lists, assigned)) = both(lists, assign::<P>(alloc, pair, lines)) else {
-        return Err(Unplayed);
+        return Err(Unplayed::NoMemory);
     };
     let Ok(ended) = run_members(rt, alloc, assigned.members, epochs, steps, assigned.scripts) else {
-        return Err(Unplayed);
+        return Err(Unplayed::NoMemory);
     };
     told(rt, ended, lists, epochs)
 }
@@ -186,7 +207,7 @@ fn play_named<P: Pair + Send + Sync, R: Threads + Wait + Sync>(
 ///
 /// # Errors
 ///
-/// [`Unplayed`] where there is no memory for it.
+/// [`Unplayed::NoMemory`] where there is no memory for it.
 fn assign<P: Pair>(
     alloc: Global,
     pair: UnnamedPair,
@@ -207,7 +228,7 @@ fn assign<P: Pair>(
 ///
 /// # Errors
 ///
-/// [`Unplayed`] where there isn't, and where the pair isn't in its first generation.
+/// [`Unplayed::NoMemory`] where there isn't, and [`Unplayed::Later`] where a node has failed.
 fn told<P: Pair, R: Wait>(
     rt: &R,
     ended: Ended<P, Script<P>>,
@@ -227,7 +248,7 @@ fn told<P: Pair, R: Wait>(
     } = ended;
     let Ok(lists) = listed(sessions, lists) else {
         drop(backup);
-        return Err(Unplayed);
+        return Err(Unplayed::NoMemory);
     };
     let Lists {
         answered,
@@ -236,23 +257,12 @@ fn told<P: Pair, R: Wait>(
     // All threads have ended, so this is all that happened.
     let found = warden.look_beside(rt, &mut clients, backup.as_mut());
     drop(backup);
-    if !is_first(found) {
-        return Err(Unplayed);
-    }
+    let found = found?;
     Ok(Played {
         clients: answered,
         entries: found.entries,
         is_whole: is_whole_by(found, is_whole, epochs),
     })
-}
-
-/// Whether the pair is in its first generation. It is: nobody here says that a node has failed. But no type says so, and of a later one
-/// nothing would be proved.
-fn is_first(found: Found) -> bool
-    ensures first { result ≡ true → found.generation ≡ 1 }
-    ensures later { result ≡ false → found.generation ≢ 1 }
-{
-    found.generation == 1
 }
 
 /// Whether all these epochs were sealed, and each is committed and acknowledged, in a run that nothing ended early.

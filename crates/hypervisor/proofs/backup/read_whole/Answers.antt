@@ -1,16 +1,23 @@
-use Rattle.std.proofs.Common.{rules, ◌≡◌, ◌≤◌, length}
-use Rattle.hypervisor.proofs.FirstBackups.{whole-read}
+use Rattle.std.proofs.Common.{rules, ◌≡◌, ◌≤◌, length, true}
+use Rattle.hypervisor.specs.FirstBackups.{IsReadOf, is_all_of}
+use Rattle.hypervisor.proofs.FirstBackups.{whole-read, one-read}
 use Rattle.hypervisor.proofs.backup.read_whole.Goals as goal
 
 pub returns : goal.returns
 returns c =
     let answers = c.in_ok-count.ensures.answers in
     let some = c.in-Some.ensures.whole in
-    let all : length c.bytes-bytes.result.now ≤ c.in_ok-count.count = search (rules, c.if-count-bytes.false) in
-    let generation : c.in-Some.checkpoint.generation ≡ c.args.packet.now.generation =
-    search (rules, c.if-not-is_of.ensures.generation) in
-    let number : c.in-Some.checkpoint.number ≡ c.args.packet.now.number =
-    search (rules, c.if-not-is_of.ensures.number) in
-    whole-read c.args.shape c.args.packet.now _ _ c.bytes-bytes.result.now c.in_ok-count.count c.in-Some.checkpoint
-    c.read_is_its_text.ensures c.byte_widths.ensures c.bytes-bytes.ensures c.new-reader.ensures answers.0 answers.1 all some.0 some.1
-    generation number
+    let test = c.if-not-is_all_of.ensures in
+    let bytes = c.bytes-bytes.result.now in
+    let count = c.in_ok-count.count in
+    let read = c.in-Some.checkpoint in
+    let packet = c.args.packet.now in
+    let all : length packet.text ≤ count = search (rules, test.all) in
+    let generation : read.generation ≡ packet.generation = search (rules, test.generation) in
+    let number : read.number ≡ packet.number = search (rules, test.number) in
+    let taken : length bytes ≤ count = rw c.bytes-bytes.ensures all in
+    let is : IsReadOf c.args.shape packet read =
+    whole-read c.args.shape packet _ _ bytes count read c.read_is_its_text.ensures c.byte_widths.ensures c.bytes-bytes.ensures
+    c.new-reader.ensures answers.0 answers.1 taken some.0 some.1 generation number in
+    let named : is_all_of count read packet ≡ true = search (rules, test.value) in
+    one-read c.args.shape packet _ _ bytes c.new-reader.ensures c.bytes-bytes.ensures count answers read some.0 some.1 named is

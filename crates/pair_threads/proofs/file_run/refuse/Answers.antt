@@ -2,4 +2,4 @@ use Rattle.pair_threads.proofs.RunLemmas.{written-said}
 use Rattle.pair_threads.proofs.file_run.refuse.Goals as goal
 
 pub returns-clause-said : goal.returns-clause-said
-returns-clause-said g c = written-said _ _ c.write_refused.result _ c.write_refused.ensures
+returns-clause-said g c = written-said _ _ c.write_out.result _ c.write_out.ensures

@@ -1,5 +1,5 @@
 use Rattle.pair_threads.proofs.RunLemmas.{put-shown}
-use Rattle.pair_threads.proofs.file_run.write_refused.Goals as goal
+use Rattle.pair_threads.proofs.file_run.write_out.Goals as goal
 
 pub returns : goal.returns
 returns g c =
