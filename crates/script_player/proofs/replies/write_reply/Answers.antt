@@ -1,5 +1,5 @@
 -- the line of a reply tells which reply it was
-use Rattle.std.proofs.Common.{◌≡◌, ◌∙◌, Some, ap, arith}
+use Rattle.std.proofs.Common.{◌≡◌, ◌∙◌, None, Some, ap, arith}
 use Rattle.pair_record.specs.declared.event.Reply.TheVariants.{Took}
 use Rattle.script_player.proofs.ReplyLemmas.{readable}
 use Rattle.script_player.proofs.replies.write_reply.Goals as goal
@@ -44,3 +44,20 @@ returns-in-Live-clause-readable c = readable _ _ c.in-Live.is (omega arith, omeg
 
 pub returns-in-Protecting-clause-readable : goal.returns-in-Protecting-clause-readable
 returns-in-Protecting-clause-readable c = readable _ _ c.in-Protecting.is (omega arith)
+
+pub returns-in-Lost-clause-readable : goal.returns-in-Lost-clause-readable
+returns-in-Lost-clause-readable c = readable _ _ c.in-Lost.is tt
+
+pub returns-in-Empty-clause-readable : goal.returns-in-Empty-clause-readable
+returns-in-Empty-clause-readable c = readable _ _ c.in-Empty.is tt
+
+pub returns-in-Dropped-clause-readable : goal.returns-in-Dropped-clause-readable
+returns-in-Dropped-clause-readable c = readable _ _ c.in-Dropped.is tt
+
+pub returns-in-Stopped-clause-readable : goal.returns-in-Stopped-clause-readable
+returns-in-Stopped-clause-readable c = readable _ _ c.in-Stopped.is tt
+
+pub returns-in-Took-None-clause-readable : goal.returns-in-Took-None-clause-readable
+returns-in-Took-None-clause-readable c =
+    let none : c.in-Took-None.field-0 ≡ None = rw c.in-Took-None.is at c.in-Took-None.field-0-is in
+    readable _ _ (c.in-Took-None.is ∙ ap (λ f. Took f) none) tt
