@@ -126,8 +126,8 @@ pub fn write_acked(text: &mut Text, generation: u64, number: u64, frames: u64)
 {
     write_line(
         text,
+        "acked",
         &[
-            Word("acked"),
             Number(generation),
             Number(number),
             Word("frames"),
@@ -142,12 +142,8 @@ pub fn write_cut(text: &mut Text, generation: u64, number: u64, bytes: u64)
 {
     write_line(
         text,
-        &[
-            Word("cut"),
-            Number(generation),
-            Number(number),
-            Number(bytes),
-        ],
+        "cut",
+        &[Number(generation), Number(number), Number(bytes)],
     );
 }
 
@@ -157,12 +153,8 @@ pub fn write_malformed(text: &mut Text, offset: u64)
 {
     write_line(
         text,
-        &[
-            Word("refused"),
-            Number(11),
-            Word("Malformed"),
-            Number(offset),
-        ],
+        "refused",
+        &[Number(11), Word("Malformed"), Number(offset)],
     );
 }
 
@@ -173,8 +165,8 @@ pub fn write_state(text: &mut Text, word: &str, generation: u64, pending: u64, s
 {
     write_line(
         text,
+        "mode",
         &[
-            Word("mode"),
             Word(word),
             Word("generation"),
             Number(generation),

@@ -158,7 +158,5 @@ read-back (Refused refusal) h = refused-back refusal (name_of refusal)
 read-back other h = refl
 
 -- no two replies print alike: a line tells which reply was printed
-pub readable : (reply printed : Reply) → reply ≡ printed → IsPlain printed
-    → (other : Reply) → IsPlain other → reply_line other ≡ reply_line reply → other ≡ reply
-readable reply printed is plain other h same =
-    some_same (sym (read-back other h) ∙ ap reply_of same ∙ read-back reply (rw is plain))
+pub readable : (reply : Reply) → IsPlain reply → (other : Reply) → IsPlain other → reply_line other ≡ reply_line reply → other ≡ reply
+readable reply plain other h same = some_same (sym (read-back other h) ∙ ap reply_of same ∙ read-back reply plain)

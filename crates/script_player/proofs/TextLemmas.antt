@@ -2,18 +2,18 @@
 use Rattle.std.proofs.Common.{◌≡◌, ◌<◌, ◌+◌, ℕ, zero, suc, List, [], ◌∷◌, ◌++◌, length, map, take, get_or, sym, ap, ◌∙◌, append-nil, append_assoc, arith}
 use Rattle.std.proofs.lemmas.{Grind.flat_map-append, List.take_more}
 use Rattle.std.specs.List.{join_with_byte, AllByRecursion}
-use Rattle.script_player.specs.Printed.{field_text, spaced, IsShort}
+use Rattle.script_player.specs.Printed.{field_text, line, spaced, IsShort}
 use Rattle.script_player.specs.declared.text.Field.{Field}
 
--- the first, and the others each after a space
-pub joined : (first : Field) (others : List Field) → join_with_byte 32 (map field_text (first ∷ others)) ≡ field_text first ++ spaced others
-joined first [] = sym (append-nil (field_text first))
-joined first (second ∷ others) = ap (λ t. field_text first ++ 32 ∷ t) (joined second others)
+-- the word, and the fields each after a space
+joined : (word : List ℕ) (fields : List Field) → join_with_byte 32 (word ∷ map field_text fields) ≡ word ++ spaced fields
+joined word [] = sym (append-nil word)
+joined word (field ∷ fields) = ap (λ t. word ++ 32 ∷ t) (joined (field_text field) fields)
 
--- there are none
-pub none-joined : (fields : List Field) → length fields ≡ 0 → (text : List ℕ) → text ≡ text ++ join_with_byte 32 (map field_text fields)
-none-joined [] e text = sym (append-nil text)
-none-joined (field ∷ fields) e text = absurd (omega arith)
+pub line-made : (word : List ℕ) (fields : List Field) (one more text : List ℕ) → one ≡ word → more ≡ one ++ spaced fields
+    → text ≡ more ++ 10 ∷ [] → text ≡ line (word ∷ map field_text fields)
+line-made word fields one more text is and_more end =
+    end ∙ ap (λ t. t ++ 10 ∷ []) (and_more ∙ ap (λ t. t ++ spaced fields) is ∙ sym (joined word fields))
 
 -- a space and one more field
 pub more-spaced : (fields : List Field) (i : ℕ) (d : Field) (old now added text : List ℕ) → i < length fields

@@ -123,8 +123,8 @@ fn spell_next<'a>(
 fn write_checkpoint(text: &mut Text, checkpoint: &Checkpoint)
     ensures { text.new.items ≡ checkpoint_line checkpoint.now }
 {
+    let kind = kind_word(checkpoint.number());
     let fields = [
-        Word(kind_word(checkpoint.number())),
         Number(checkpoint.generation()),
         Number(checkpoint.number()),
         Word("pages"),
@@ -135,9 +135,9 @@ fn write_checkpoint(text: &mut Text, checkpoint: &Checkpoint)
         Number(checkpoint.frames().len() as u64),
     ];
     if checkpoint.version() == 1 {
-        write_line(text, &fields[..7]);
+        write_line(text, kind, &fields[..6]);
     } else {
-        write_line(text, &fields);
+        write_line(text, kind, &fields);
     }
 }
 
@@ -153,7 +153,7 @@ fn kind_word(number: u64) -> &'static str
 fn write_short(text: &mut Text, file_bytes: u64)
     ensures { text.new.items ≡ short_line file_bytes }
 {
-    write_line(text, &[Word("short"), Word("at"), Number(file_bytes)]);
+    write_line(text, "short", &[Word("at"), Number(file_bytes)]);
 }
 
 /// Prints that the bytes are malformed, and from which on.
@@ -162,11 +162,7 @@ fn write_malformed(text: &mut Text, offset: u64)
 {
     write_line(
         text,
-        &[
-            Word("refused"),
-            Number(11),
-            Word("Malformed"),
-            Number(offset),
-        ],
+        "refused",
+        &[Number(11), Word("Malformed"), Number(offset)],
     );
 }

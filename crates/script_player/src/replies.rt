@@ -17,6 +17,14 @@ pub fn write_reply(text: &mut Text, reply: &Reply)
     // Whoever reads the line knows which reply it was.
     ensures readable { (other : Reply) → IsPlain other → reply_line other ≡ reply_line reply.now → other ≡ reply.now }
 {
+    spell(text, reply)
+}
+
+/// The same, of whose fields it is known that they can be read back.
+fn spell(text: &mut Text, reply: &Reply)
+    ensures printed { text.new.items ≡ reply_line reply.now }
+    ensures plain { IsPlain reply.now }
+{
     match reply {
         Reply::Steps(steps) => write_number(text, "steps", *steps),
         Reply::Cut { generation, number } => write_checkpoint(text, "cut", *generation, *number),
@@ -59,10 +67,7 @@ pub fn write_refusal(text: &mut Text, refusal: &Refusal)
     ensures { text.new.items ≡ refusal_line refusal.now }
 {
     let number = u64::from(refusal.number());
-    write_line(
-        text,
-        &[Word("refused"), Number(number), Word(refusal.name())],
-    );
+    write_line(text, "refused", &[Number(number), Word(refusal.name())]);
 }
 
 /// Prints the state in one line.
@@ -78,8 +83,8 @@ pub fn write_show(text: &mut Text, show: &Show)
     } = *show;
     write_line(
         text,
+        "mode",
         &[
-            Word("mode"),
             Word(mode_word(mode)),
             Word("generation"),
             Number(generation),
@@ -122,7 +127,7 @@ pub fn write_words(text: &mut Text, words: &str)
     requires { length words.now ≤ 20 }
     ensures { text.new.items ≡ line (words.now ∷ []) }
 {
-    write_line(text, &[Word(words)]);
+    write_line(text, words, &[]);
 }
 
 /// Prints what happened, and one number.
@@ -130,7 +135,7 @@ pub fn write_number(text: &mut Text, event: &str, number: u64)
     requires { length event.now ≤ 20 }
     ensures { text.new.items ≡ line (event.now ∷ decimal number ∷ []) }
 {
-    write_line(text, &[Word(event), Number(number)]);
+    write_line(text, event, &[Number(number)]);
 }
 
 /// Prints up to which checkpoint all are acknowledged, and how many frames landed.
@@ -139,8 +144,8 @@ fn write_acked(text: &mut Text, generation: u64, number: u64, landed: u64)
 {
     write_line(
         text,
+        "acked",
         &[
-            Word("acked"),
             Number(generation),
             Number(number),
             Word("landed"),
@@ -154,24 +159,19 @@ pub fn write_checkpoint(text: &mut Text, event: &str, generation: u64, number: u
     requires { length event.now ≤ 20 }
     ensures { text.new.items ≡ line (event.now ∷ decimal generation ∷ decimal number ∷ []) }
 {
-    write_line(text, &[Word(event), Number(generation), Number(number)]);
+    write_line(text, event, &[Number(generation), Number(number)]);
 }
 
 /// Prints what happened, the generation, and a number with its name.
-pub fn write_generation<'a>(
-    text: &mut Text,
-    event: &'a str,
-    generation: u64,
-    name: &'a str,
-    number: u64,
-)
+pub fn write_generation(text: &mut Text, event: &str, generation: u64, name: &str, number: u64)
     requires short { length event.now ≤ 20 }
     requires short_name { length name.now ≤ 20 }
     ensures { text.new.items ≡ line (event.now ∷ decimal generation ∷ name.now ∷ decimal number ∷ []) }
 {
     write_line(
         text,
-        &[Word(event), Number(generation), Word(name), Number(number)],
+        event,
+        &[Number(generation), Word(name), Number(number)],
     );
 }
 

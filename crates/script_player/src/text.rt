@@ -1,7 +1,7 @@
 //! A line that is put together in a place of its own, and so takes no memory.
 
-ghost use Rattle.std.specs.Prelude.{◌≡◌, ◌+◌, ◌*◌, ◌≤◌, ◌++◌, length, decimal, map};
-ghost use Rattle.std.specs.List.{join_with_byte, AllByRecursion};
+ghost use Rattle.std.specs.Prelude.{◌≡◌, ◌+◌, ◌*◌, ◌≤◌, ◌∷◌, ◌++◌, length, decimal, map};
+ghost use Rattle.std.specs.List.{AllByRecursion};
 ghost use Rattle.arrayvec.specs.ArrayVec.{array_vec_len};
 ghost use Rattle.script_player.specs.Printed.{field_text, line, spaced, IsShort};
 
@@ -23,29 +23,17 @@ pub enum Field<'a> {
     Number(u64),
 }
 
-/// Writes these fields, with one space between them, as a line, in the place of what the text was.
-pub fn write_line<'a>(text: &mut Text, fields: &'a [Field<'a>])
+/// Writes a word and these fields, with one space between them, as a line, in the place of what the text was.
+pub fn write_line<'a>(text: &mut Text, word: &str, fields: &'a [Field<'a>])
+    requires word { length word.now ≤ 20 }
     requires few { length fields.now ≤ 16 }
     requires short { AllByRecursion IsShort fields.now }
-    ensures { text.new.items ≡ line (map field_text fields.now) }
+    ensures { text.new.items ≡ line (word.now ∷ map field_text fields.now) }
 {
     text.clear();
-    add_fields(text, fields);
+    add(text, word.as_bytes());
+    add_spaced(text, fields);
     add(text, b"\n");
-}
-
-/// Adds fields, with one space between them.
-fn add_fields<'a>(text: &mut Text, fields: &'a [Field<'a>])
-    requires room { array_vec_len text.old + 41 * length fields.now ≤ 4000 }
-    requires short { AllByRecursion IsShort fields.now }
-    ensures items { text.new.items ≡ text.old.items ++ join_with_byte 32 (map field_text fields.now) }
-    ensures len { array_vec_len text.new ≤ array_vec_len text.old + 41 * length fields.now }
-{
-    let Some((first, others)) = fields.split_first() else {
-        return;
-    };
-    add_field(text, *first);
-    add_spaced(text, others);
 }
 
 /// Adds fields, each after a space.
