@@ -7,10 +7,11 @@ ghost use Rattle.script_player.specs.Streams.{IsPut};
 
 use arrayvec::ArrayVec;
 use pair_core::{Frame, Refusal};
-use script_player::digits::{add_digits, put_last};
+use script_player::digits::add_digits;
 use script_player::replies::{write_frame, write_number, write_refusal, write_words};
 use script_player::streams::{Failed, Sink};
-use script_player::text::{Text, add, add_end, add_number, add_word};
+use script_player::text::Field::{Number, Word};
+use script_player::text::{Text, add, write_line};
 
 /// Bytes of a checkpoint's text whose digits are written out at once, at most.
 const CHUNK_BYTES: usize = 16384;
@@ -105,7 +106,7 @@ pub fn put_text<O: Sink>(out: &mut O, bytes: &[u8]) -> Result<(), Failed>
     ensures { IsPut (O.written out.old) (O.written out.new) result (text_line bytes.now) }
 {
     let mut piece: ArrayVec<u8, PIECE_BYTES> = ArrayVec::new();
-    put_last(&mut piece, b"text ");
+    add(&mut piece, b"text ");
     let mut rest = bytes;
     while rest.len() > CHUNK_BYTES {
         let (chunk, others) = rest.split_at(CHUNK_BYTES);
@@ -115,60 +116,64 @@ pub fn put_text<O: Sink>(out: &mut O, bytes: &[u8]) -> Result<(), Failed>
         rest = others;
     }
     add_digits(&mut piece, rest);
-    put_last(&mut piece, b"\n");
+    add(&mut piece, b"\n");
     out.put(piece.as_slice())
 }
 
 /// Prints up to which checkpoint all are acknowledged, and how many frames are let out.
 pub fn write_acked(text: &mut Text, generation: u64, number: u64, frames: u64)
-    requires { text.old.items ≡ [] }
     ensures { text.new.items ≡ line (codes "acked" ∷ decimal generation ∷ decimal number ∷ codes "frames" ∷ decimal frames ∷ []) }
 {
-    add(text, b"acked");
-    add_number(text, generation);
-    add_number(text, number);
-    add(text, b" frames");
-    add_number(text, frames);
-    add_end(text);
+    write_line(
+        text,
+        "acked",
+        &[
+            Number(generation),
+            Number(number),
+            Word("frames"),
+            Number(frames),
+        ],
+    );
 }
 
 /// Prints which checkpoint was cut, and how many bytes its text has.
 pub fn write_cut(text: &mut Text, generation: u64, number: u64, bytes: u64)
-    requires { text.old.items ≡ [] }
     ensures { text.new.items ≡ cut_line generation number bytes }
 {
-    add(text, b"cut");
-    add_number(text, generation);
-    add_number(text, number);
-    add_number(text, bytes);
-    add_end(text);
+    write_line(
+        text,
+        "cut",
+        &[Number(generation), Number(number), Number(bytes)],
+    );
 }
 
 /// Prints where a checkpoint's text is malformed.
 pub fn write_malformed(text: &mut Text, offset: u64)
-    requires { text.old.items ≡ [] }
     ensures { text.new.items ≡ malformed_line offset }
 {
-    add(text, b"refused");
-    add_number(text, 11);
-    add(text, b" Malformed");
-    add_number(text, offset);
-    add_end(text);
+    write_line(
+        text,
+        "refused",
+        &[Number(11), Word("Malformed"), Number(offset)],
+    );
 }
 
 /// Prints the state in one line.
 pub fn write_state(text: &mut Text, word: &str, generation: u64, pending: u64, steps: u64)
-    requires empty { text.old.items ≡ [] }
-    requires short { length word.now ≤ 20 }
+    requires { length word.now ≤ 20 }
     ensures { text.new.items ≡ show_line word.now generation pending steps }
 {
-    add(text, b"mode");
-    add_word(text, word);
-    add(text, b" generation");
-    add_number(text, generation);
-    add(text, b" pending");
-    add_number(text, pending);
-    add(text, b" steps");
-    add_number(text, steps);
-    add_end(text);
+    write_line(
+        text,
+        "mode",
+        &[
+            Word(word),
+            Word("generation"),
+            Number(generation),
+            Word("pending"),
+            Number(pending),
+            Word("steps"),
+            Number(steps),
+        ],
+    );
 }

@@ -1,6 +1,6 @@
 //! The lines that show a node.
 
-ghost use Rattle.std.specs.Prelude.{◌≡◌, ◌≤◌, ℕ, List, [], length, option_map};
+ghost use Rattle.std.specs.Prelude.{◌≡◌, ◌≤◌, ℕ, List, length, option_map};
 ghost use Rattle.node_player.specs.AtPrimary.{AtPrimary, mode_word};
 ghost use Rattle.node_player.specs.AtStandby.{AtStandby, standby_word};
 ghost use Rattle.node_player.specs.Lines.{order};
@@ -36,7 +36,6 @@ pub fn show<O: Sink>(role: &Role, out: &mut O) -> Result<(), Failed>
 
 /// Writes the state of a node.
 fn write_role(text: &mut Text, role: &Role)
-    requires { text.old.items ≡ [] }
     ensures { (no_memory : List ℕ) → Answers no_memory (node_of role.now) (order Show) text.new.items (node_of role.now) }
 {
     match role {
@@ -48,7 +47,6 @@ fn write_role(text: &mut Text, role: &Role)
 
 /// Writes the state of a primary.
 fn write_primary(text: &mut Text, primary: &PrimaryNode)
-    requires { text.old.items ≡ [] }
     ensures { (no_memory : List ℕ) → AtPrimary no_memory primary.now (order Show) text.new.items primary.now }
 {
     let word = mode_word(primary.mode());
@@ -58,7 +56,6 @@ fn write_primary(text: &mut Text, primary: &PrimaryNode)
 
 /// Writes the state of a standby.
 fn write_standby(text: &mut Text, standby: &StandbyNode)
-    requires { text.old.items ≡ [] }
     ensures { (no_memory : List ℕ) → AtStandby no_memory standby.now (order Show) text.new.items (standby_node standby.now) }
 {
     let word = standby_word(standby);

@@ -52,7 +52,6 @@ fn feed<O: Sink>(standby: &mut StandbyNode, bytes: &[u8], out: &mut O) -> Result
 
 /// Prints how many of so many bytes were taken, or which checkpoint is complete with the last of them.
 fn write_taken(text: &mut Text, standby: &StandbyNode, count: usize, bytes: usize)
-    requires { text.old.items ≡ [] }
     ensures { text.new.items ≡ taken_answer standby.now count bytes }
 {
     match standby.whole() {

@@ -7,7 +7,8 @@ ghost use Rattle.pair_run.specs.RunPrinted.{IsWritten, answered_lines, client_ti
 use pair_record::Reply;
 use script_player::replies::write_reply;
 use script_player::streams::{Failed, Sink};
-use script_player::text::{Text, add, add_end, add_number};
+use script_player::text::Field::Number;
+use script_player::text::{Text, write_line};
 
 /// A client, and what it was answered.
 #[derive(Drop)]
@@ -54,9 +55,7 @@ fn write_title<O: Sink>(client: u64, out: &mut O) -> Result<(), Failed>
     ensures { IsPrinted (O.written out.old) (O.written out.new) result (client_title client) }
 {
     let mut text = Text::new();
-    add(&mut text, b"client");
-    add_number(&mut text, client);
-    add_end(&mut text);
+    write_line(&mut text, "client", &[Number(client)]);
     out.put(text.as_slice())
 }
 
@@ -65,13 +64,13 @@ fn write_replies<O: Sink>(replies: &[Reply], out: &mut O) -> Result<(), Failed>
     ensures { IsPrinted (O.written out.old) (O.written out.new) result (flat_map reply_line replies.now) }
 {
     for reply in replies {
-        write_line(reply, out)?;
+        write_answer(reply, out)?;
     }
     Ok(())
 }
 
 /// Prints an answer.
-fn write_line<O: Sink>(reply: &Reply, out: &mut O) -> Result<(), Failed>
+fn write_answer<O: Sink>(reply: &Reply, out: &mut O) -> Result<(), Failed>
     ensures { IsPrinted (O.written out.old) (O.written out.new) result (reply_line reply.now) }
 {
     let mut text = Text::new();
@@ -84,8 +83,6 @@ fn write_entries<O: Sink>(entries: u64, out: &mut O) -> Result<(), Failed>
     ensures { IsPrinted (O.written out.old) (O.written out.new) result (entries_line entries) }
 {
     let mut text = Text::new();
-    add(&mut text, b"entries");
-    add_number(&mut text, entries);
-    add_end(&mut text);
+    write_line(&mut text, "entries", &[Number(entries)]);
     out.put(text.as_slice())
 }

@@ -2,16 +2,17 @@
 use Rattle.std.proofs.Common.{◌≡◌, List, ℕ, false, refl, ap}
 use Rattle.pair_record.specs.declared.{event.Event.{Event}, event.Reply.{Reply}}
 use Rattle.pair_core.specs.Pair.{Pair}
-use Rattle.script_player.specs.{declared.script.Command.TheVariants.{Step, Sector, Show}, Lines.{Line, order}, Meaning.{AsksFor, Happens}}
+use Rattle.script_player.specs.{Lines.{Line, order}, Meaning.{AsksFor, Happens}}
 use Rattle.script_player.specs.Meaning.{IsAnswered, IsLine, answers, beyond, is_silent, playing}
 use Rattle.script_player.specs.{declared.player.Turn.Turn, internal.Playing.{IsDone, IsStep, Tells, printed_by}, Printed.told_line}
+use Rattle.script_player.specs.declared.script.Command.TheVariants as commands
 use Rattle.script_player.specs.declared.player.Turn.TheVariants as turns
 
 pub answered : {no_memory : List ℕ} {old new : Pair} {event : Event} {printed : List ℕ} (line : Line) → AsksFor line event → Happens no_memory old event printed new
     → IsAnswered no_memory old line printed new
-answered (order (Step count)) a h = absurd a
-answered (order (Sector sector)) a h = absurd a
-answered (order Show) a h = absurd a
+answered (order (commands.Steps count)) a h = absurd a
+answered (order (commands.Sector sector)) a h = absurd a
+answered (order commands.Show) a h = absurd a
 answered line a h = (_, a, h)
 
 module _ (no_memory : List ℕ) (old new : Pair) where

@@ -1,5 +1,5 @@
 -- A reply's line can be read back.
-use Rattle.std.proofs.Common.{◌≡◌, ◌<◌, ◌^◌, ◌-◌, ℕ, true, false, cond, List, [], ◌∷◌, ◌++◌, length, take, drop, Option, Some, None, refl}
+use Rattle.std.proofs.Common.{◌≡◌, ◌≤◌, ◌<◌, ◌^◌, ◌-◌, ℕ, true, false, cond, List, [], ◌∷◌, ◌++◌, length, take, drop, Option, Some, None, refl}
 use Rattle.std.proofs.{Common.{get_or, sym, ap, arith, ◌==◌, ◌∙◌, codes, append_assoc, length-append}, lemmas.Bool.and_parts}
 use Rattle.std.{proofs.{lemmas.Fmt.{digits_decimal, digits_value-decimal}, Math.Seq.take-append_seam}, specs.Prelude.decimal}
 use Rattle.std.specs.{Option.option_map, Result.result_ok, Char.is_ascii_digit, Str.{all_ascii_digits, Parse.digits_value}}
@@ -100,6 +100,10 @@ small : (r : Refusal) → number_of r < 2 ^ 64
 small Full = omega arith
 small other = omega arith
 
+pub name-short : (r : Refusal) → length (name_of r) ≤ 20
+name-short Full = omega arith
+name-short other = omega arith
+
 refused-back : (r : Refusal) (name : List ℕ) → refused ((decimal (number_of r) ++ 32 ∷ name) ++ 10 ∷ []) ≡ Some (Refused r)
 refused-back r name =
     ap refused (append_assoc (decimal (number_of r)) (32 ∷ name) (10 ∷ []))
@@ -154,7 +158,5 @@ read-back (Refused refusal) h = refused-back refusal (name_of refusal)
 read-back other h = refl
 
 -- no two replies print alike: a line tells which reply was printed
-pub readable : (reply printed : Reply) → reply ≡ printed → IsPlain printed
-    → (other : Reply) → IsPlain other → reply_line other ≡ reply_line reply → other ≡ reply
-readable reply printed is plain other h same =
-    some_same (sym (read-back other h) ∙ ap reply_of same ∙ read-back reply (rw is plain))
+pub readable : (reply : Reply) → IsPlain reply → (other : Reply) → IsPlain other → reply_line other ≡ reply_line reply → other ≡ reply
+readable reply plain other h same = some_same (sym (read-back other h) ∙ ap reply_of same ∙ read-back reply plain)

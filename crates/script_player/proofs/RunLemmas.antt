@@ -5,10 +5,11 @@ use Rattle.std.specs.{Prelude.replicate, List.AllByRecursion}
 use Rattle.pair_record.specs.declared.event.{Event.Event, Reply.Reply}
 use Rattle.pair_core.specs.{HistoryState.HistoryState, Calls.Moment, Pair.Pair, Service.{Serves, HasServed, ServesSteps, is_step, moment}}
 use Rattle.pair_core.proofs.AlongLaws.{along-append, along-more}
-use Rattle.script_player.specs.{declared.script.Command.TheVariants.{Step, Sector, Show}, Boot.{BootLine, IsBoot}, Lines.{Line, order}}
+use Rattle.script_player.specs.{Boot.{BootLine, IsBoot}, Lines.{Line, order}}
 use Rattle.script_player.specs.Meaning.{Ending, GoesOn, IsAnswered, IsLine, IsReady, Means, Stage, Steps, bad, finished, is_silent, playing}
 use Rattle.script_player.specs.{Meaning.{refused, unbooted}, Scripts.{AreSilent, AreSteps, BootsNone, Ends, IsOneRun, Played, Plays}}
 use Rattle.script_player.{specs.Scripts.{PlaysAll, Was, events_of, printed_of, replies_of, texts_of}, proofs.ListLemmas.all-push}
+use Rattle.script_player.specs.declared.script.Command.TheVariants as commands
 use Rattle.pair_record.specs.declared.event.Event.TheVariants as events
 use Rattle.pair_record.specs.declared.event.Reply.TheVariants as replies
 use Rattle.script_player.specs.Meaning as meaning
@@ -96,7 +97,7 @@ AsPlayed no_memory old text printed new = (events : List Event) × (replies : Li
     × Plays no_memory old (record { text = text; printed = printed; events = events; replies = replies }) new
 
 module _ {no_memory : List ℕ} {old new : Pair} {text printed : List ℕ} where
-  as-steps : (count : ℕ) → IsLine text (order (Step count)) → Steps no_memory old count printed new → AsPlayed no_memory old text printed new
+  as-steps : (count : ℕ) → IsLine text (order (commands.Steps count)) → Steps no_memory old count printed new → AsPlayed no_memory old text printed new
   as-steps count is h =
       let ended = steps-served old.start (moment old) (moment new) count is.1 h.reply h.serves in (
         replicate (suc (length ended.made)) events.Step,
@@ -105,9 +106,9 @@ module _ {no_memory : List ℕ} {old new : Pair} {text printed : List ℕ} where
       )
 
   as-answered : (said : Line) → IsLine text said → IsAnswered no_memory old said printed new → AsPlayed no_memory old text printed new
-  as-answered (order (Step count)) is h = as-steps count is h
-  as-answered (order (Sector sector)) is h = ([], [], scripts.reads sector h.0 is h.1 ((refl, refl), h.2) h.3)
-  as-answered (order Show) is h = ([], [], scripts.shows is ((refl, refl), h.0) h.1)
+  as-answered (order (commands.Steps count)) is h = as-steps count is h
+  as-answered (order (commands.Sector sector)) is h = ([], [], scripts.reads sector h.0 is h.1 ((refl, refl), h.2) h.3)
+  as-answered (order commands.Show) is h = ([], [], scripts.shows is ((refl, refl), h.0) h.1)
   as-answered said is h = (h.0 ∷ [], h.2.reply ∷ [], scripts.event said h.0 h.2 is h.1 (refl, refl))
 
 -- a line after the boot line, and the pair after it

@@ -11,8 +11,7 @@ use Rattle.pair_core.specs.Runs.{StepsAnswer}
 use Rattle.pair_core.specs.Service.{Serves, ServesSteps, moment}
 use Rattle.pair_core.specs.Lines.{start_protocol}
 use Rattle.pair_core.specs.Start.{shown}
-use Rattle.script_player.specs.declared.script.Command.TheVariants.{Step, Cut, Send, Backup, Ack, Admit, Take, LoseIn, LoseOut, FailPrimary}
-use Rattle.script_player.specs.declared.script.Command.TheVariants.{FailBackup, GoLive, Protect, Sector, Show}
+use Rattle.script_player.specs.declared.script.Command.TheVariants as commands
 use Rattle.script_player.specs.Boot.{BootLine, IsBoot, booted_state}
 use Rattle.script_player.specs.Command.{IsCommand}
 use Rattle.script_player.specs.Delivery.{IsDelivery}
@@ -40,18 +39,7 @@ IsLine text (delivery client bytes) = IsDelivery text client bytes
 
 -- the event that a line asks for; the lines `step`, `sector` and `show` ask for none
 abbrev pub AsksFor : Line → Event → Type 0
-AsksFor (order Cut) event = event ≡ events.Cut
-AsksFor (order Send) event = event ≡ events.Send
-AsksFor (order (Backup packet)) event = event ≡ events.BackupGet packet
-AsksFor (order (Ack packet)) event = event ≡ events.AckGet packet
-AsksFor (order (Admit client)) event = event ≡ events.Admit client
-AsksFor (order (Take client)) event = event ≡ events.Take client
-AsksFor (order (LoseIn client place)) event = event ≡ events.LoseIn client place
-AsksFor (order (LoseOut client place)) event = event ≡ events.LoseOut client place
-AsksFor (order FailPrimary) event = event ≡ events.FailPrimary
-AsksFor (order FailBackup) event = event ≡ events.FailBackup
-AsksFor (order GoLive) event = event ≡ events.GoLive
-AsksFor (order Protect) event = event ≡ events.Protect
+AsksFor (order (commands.Asks asked)) event = event ≡ asked
 AsksFor (delivery client bytes) (events.Deliver to lent) = (to ≡ client) × (lent.now ≡ bytes)
 AsksFor line event = ⊥
 
@@ -76,15 +64,15 @@ pub record Steps (no_memory : List ℕ) (old : Pair) (count : ℕ) (printed : Li
 
 -- A line is answered so.
 abbrev pub IsAnswered : List ℕ → Pair → Line → List ℕ → Pair → Type 0
-IsAnswered no_memory old (order (Step count)) printed new = Steps no_memory old count printed new
-IsAnswered no_memory old (order (Sector sector)) printed new =
+IsAnswered no_memory old (order (commands.Steps count)) printed new = Steps no_memory old count printed new
+IsAnswered no_memory old (order (commands.Sector sector)) printed new =
     (bytes : List ℕ) × (named_sector old sector ≡ Some bytes) × (printed ≡ sector_line sector bytes) × (new ≡ old)
-IsAnswered no_memory old (order Show) printed new = (printed ≡ show_line (shown old)) × (new ≡ old)
+IsAnswered no_memory old (order commands.Show) printed new = (printed ≡ show_line (shown old)) × (new ≡ old)
 IsAnswered no_memory old line printed new = (event : Event) × AsksFor line event × Happens no_memory old event printed new
 
 -- The line asks for a sector beyond the disk, which is a bad line.
 abbrev pub IsBeyond : Pair → Line → Type 0
-IsBeyond w (order (Sector sector)) = named_sector w sector ≡ None
+IsBeyond w (order (commands.Sector sector)) = named_sector w sector ≡ None
 IsBeyond w line = ⊥
 
 -- The pair of a boot line, at its start.

@@ -1,6 +1,6 @@
 -- The lines that are printed.
-use Rattle.std.specs.Prelude.{ℕ, ◌<◌, ◌^◌, nat_lt, if◌then◌else◌, ◌++◌, ◌∷◌, [], List, Option, Some, None, codes, decimal}
-use Rattle.std.specs.List.{join_with_byte}
+use Rattle.std.specs.Prelude.{ℕ, length, ◌≤◌, ◌<◌, ◌^◌, nat_lt, if◌then◌else◌, ◌++◌, ◌∷◌, [], List, Option, Some, None, codes, decimal}
+use Rattle.std.specs.List.{flat_map, join_with_byte}
 use Rattle.hex.specs.Hex.{encode_lower, IsBytes}
 use Rattle.pair_core.specs.Pair.{Pair}
 use Rattle.pair_core.specs.Start.{shown_sector}
@@ -12,10 +12,26 @@ use Rattle.pair_record.specs.declared.event.Show.{Show}
 use Rattle.pair_record.specs.declared.event.Reply.{Reply}
 use Rattle.pair_record.specs.declared.event.Reply.TheVariants.{Steps, Cut, Sent, Committed, Again, Lost, Acked, Admitted, Empty}
 use Rattle.pair_record.specs.declared.event.Reply.TheVariants.{Delivered, Took, Dropped, Stopped, Alone, Live, Protecting, Refused}
+use Rattle.script_player.specs.declared.text.Field.{Field}
+use Rattle.script_player.specs.declared.text.Field.TheVariants.{Word, Number}
 
 -- fields parted by one space, and the end of the line
 abbrev pub line : List (List ℕ) → List ℕ
 line fields = join_with_byte 32 fields ++ codes "\n"
+
+-- what a field prints: a word, or a number in decimal
+abbrev pub field_text : Field → List ℕ
+field_text (Word word) = word.now
+field_text (Number n) = decimal n
+
+-- a word that a line has room for; each number is
+abbrev pub IsShort : Field → Type 0
+IsShort (Word word) = length word.now ≤ 20
+IsShort (Number n) = Unit {0}
+
+-- fields, each after a space
+abbrev pub spaced : List Field → List ℕ
+spaced fields = flat_map (λ field. 32 ∷ field_text field) fields
 
 -- what a refusal prints
 abbrev pub refusal_line : Refusal → List ℕ

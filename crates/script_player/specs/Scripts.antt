@@ -2,12 +2,12 @@
 use Rattle.std.specs.Prelude.{◌≡◌, ℕ, suc, ◌+◌, ◌<◌, true, List, [], ◌∷◌, ◌++◌, Some, codes, length, map, replicate}
 use Rattle.std.specs.List.{flat_map, AllByRecursion}
 use Rattle.pair_record.specs.declared.event.Event.{Event}
-use Rattle.pair_record.specs.declared.event.Event.TheVariants.{Step as GuestStep}
+use Rattle.pair_record.specs.declared.event.Event.TheVariants.{Step}
 use Rattle.pair_record.specs.declared.event.Reply.{Reply}
 use Rattle.pair_core.specs.Pair.{Pair}
 use Rattle.pair_core.specs.Service.{HasServed, is_step, moment}
 use Rattle.pair_core.specs.Start.{shown}
-use Rattle.script_player.specs.declared.script.Command.TheVariants.{Step, Sector, Show}
+use Rattle.script_player.specs.declared.script.Command.TheVariants as commands
 use Rattle.script_player.specs.Boot.{BootLine, IsBoot}
 use Rattle.script_player.specs.Delivery.{IsDelivery}
 use Rattle.script_player.specs.Lines.{Line, order}
@@ -48,12 +48,12 @@ pub data Plays (no_memory : List ℕ) (old : Pair) (line : Played) (new : Pair) 
   event : (said : Line) (event : Event) (done : Happens no_memory old event line.printed new) → IsLine line.text said → AsksFor said event
       → Was line (event ∷ []) (done.reply ∷ []) → Plays no_memory old line new
   -- one that asks for steps: each is an event, and the last reply is printed
-  steps : (count : ℕ) (made : List Reply) (done : Steps no_memory old count line.printed new) → IsLine line.text (order (Step count))
-      → AreSteps count made done.reply → IsServed old (replicate (suc (length made)) GuestStep) (made ++ done.reply ∷ []) new
-      → Was line (replicate (suc (length made)) GuestStep) (made ++ done.reply ∷ []) → Plays no_memory old line new
+  steps : (count : ℕ) (made : List Reply) (done : Steps no_memory old count line.printed new) → IsLine line.text (order (commands.Steps count))
+      → AreSteps count made done.reply → IsServed old (replicate (suc (length made)) Step) (made ++ done.reply ∷ []) new
+      → Was line (replicate (suc (length made)) Step) (made ++ done.reply ∷ []) → Plays no_memory old line new
   -- one that shows the pair, or a sector of its disk
-  shows : IsLine line.text (order Show) → OnlyPrints line (show_line (shown old)) → new ≡ old → Plays no_memory old line new
-  reads : (sector : ℕ) (bytes : List ℕ) → IsLine line.text (order (Sector sector)) → named_sector old sector ≡ Some bytes
+  shows : IsLine line.text (order commands.Show) → OnlyPrints line (show_line (shown old)) → new ≡ old → Plays no_memory old line new
+  reads : (sector : ℕ) (bytes : List ℕ) → IsLine line.text (order (commands.Sector sector)) → named_sector old sector ≡ Some bytes
       → OnlyPrints line (sector_line sector bytes) → new ≡ old → Plays no_memory old line new
   -- a delivery whose bytes find no memory
   finds_no_memory : (client : ℕ) (bytes : List ℕ) → IsDelivery line.text client bytes → OnlyPrints line no_memory

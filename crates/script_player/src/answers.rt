@@ -38,19 +38,8 @@ fn obey(world: &mut World, command: Command, text: &mut Text) -> Turn
     ensures { (no_memory : List ℕ) → IsDone no_memory world.old (order command) result text.new.items world.new }
 {
     match command {
-        Command::Step(count) => step(world, count, text),
-        Command::Cut => happen(world, Event::Cut, text),
-        Command::Send => happen(world, Event::Send, text),
-        Command::Backup(packet) => happen(world, Event::BackupGet(packet), text),
-        Command::Ack(packet) => happen(world, Event::AckGet(packet), text),
-        Command::Admit(client) => happen(world, Event::Admit(client), text),
-        Command::Take(client) => happen(world, Event::Take(client), text),
-        Command::LoseIn(client, place) => happen(world, Event::LoseIn(client, place), text),
-        Command::LoseOut(client, place) => happen(world, Event::LoseOut(client, place), text),
-        Command::FailPrimary => happen(world, Event::FailPrimary, text),
-        Command::FailBackup => happen(world, Event::FailBackup, text),
-        Command::GoLive => happen(world, Event::GoLive, text),
-        Command::Protect => happen(world, Event::Protect, text),
+        Command::Asks(event) => happen(world, event, text),
+        Command::Steps(count) => step(world, count, text),
         Command::Sector(sector) => print_sector(world, sector, text),
         Command::Show => print_show(world, text),
     }
@@ -58,7 +47,6 @@ fn obey(world: &mut World, command: Command, text: &mut Text) -> Turn
 
 /// An event happens to the pair, and its reply is printed: a line that asks for that event is done.
 fn happen(world: &mut World, event: Event<'_>, text: &mut Text) -> Turn
-    requires { text.old.items ≡ [] }
     ensures { (no_memory : List ℕ) (line : SpelledLine) → AsksFor line event.entry
         → IsDone no_memory world.old line result text.new.items world.new }
 {
@@ -68,7 +56,6 @@ fn happen(world: &mut World, event: Event<'_>, text: &mut Text) -> Turn
 
 /// A reply is printed; a want of memory is handed back.
 fn tell(reply: Reply, text: &mut Text) -> Turn
-    requires { text.old.items ≡ [] }
     ensures { Tells reply result text.new.items }
 {
     match reply {
@@ -82,8 +69,7 @@ fn tell(reply: Reply, text: &mut Text) -> Turn
 
 /// The guest makes so many steps, and the last reply is printed.
 fn step(world: &mut World, count: u64, text: &mut Text) -> Turn
-    requires { text.old.items ≡ [] }
-    ensures { (no_memory : List ℕ) → IsDone no_memory world.old (order (Command.Step count)) result text.new.items world.new }
+    ensures { (no_memory : List ℕ) → IsDone no_memory world.old (order (Command.Steps count)) result text.new.items world.new }
 {
     let reply = run_steps(world, count);
     tell(reply, text)
@@ -105,7 +91,6 @@ fn run_steps(world: &mut World, count: u64) -> Reply
 
 /// Prints the state of the pair.
 fn print_show(world: &World, text: &mut Text) -> Turn
-    requires { text.old.items ≡ [] }
     ensures { (no_memory : List ℕ) → IsDone no_memory world.now (order Command.Show) result text.new.items world.now }
 {
     write_show(text, &world.show());

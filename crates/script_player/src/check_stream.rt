@@ -1,15 +1,14 @@
 //! `remus check-stream FILE --pages P --sectors S`: which checkpoints a file of them holds.
 
-ghost use Rattle.std.specs.Prelude.{◌≡◌, ◌+◌, ◌<◌, ◌≤◌, ◌==◌, ◌∷◌, [], false, if◌then◌else◌, codes, decimal, IfOk, IfSome, length, ℕ, List};
-ghost use Rattle.std.specs.List.{join_with_byte};
-ghost use Rattle.arrayvec.specs.ArrayVec.{array_vec_len};
+ghost use Rattle.std.specs.Prelude.{◌≡◌, ◌<◌, ◌≤◌, ◌==◌, false, if◌then◌else◌, codes, IfOk, IfSome, length, ℕ, List};
 ghost use Rattle.checkpoint_stream.specs.Readings.{begun, is_closed};
 ghost use Rattle.script_player.specs.Listing.{IsSpelled, IsPrinted, IsListedTo, listed_status};
 ghost use Rattle.script_player.specs.StreamLines.{checkpoint_line, malformed_line, short_line};
 ghost use Rattle.script_player.specs.StreamMeaning.{IsListed};
 
 use crate::streams::{Failed, Sink};
-use crate::text::{Text, add, add_end, add_number};
+use crate::text::Field::{Number, Word};
+use crate::text::{Text, write_line};
 use checkpoint_stream::{Reader, StreamError};
 use epoch_snapshot::Checkpoint;
 use memory_wanted::MemoryWanted;
@@ -88,7 +87,7 @@ fn print_next<'a, O: Sink>(
     }
 }
 
-/// Reads one checkpoint and writes its line into an empty text, or the last line.
+/// Reads one checkpoint and writes its line into a text, or the last line.
 ///
 /// # Errors
 ///
@@ -101,7 +100,6 @@ fn spell_next<'a>(
 ) -> Result<Option<&'a [u8]>, MemoryWanted>
     requires open { is_closed reader.old.place ≡ false }
     requires some { 0 < length rest.now }
-    requires empty { text.old.items ≡ [] }
     ensures spelled { (no_memory : List ℕ) → IsSpelled no_memory file_bytes reader.old rest.now result reader.new text.new.items }
     ensures shorter { IfOk result (λ found. IfSome found (λ left. length left.now < length rest.now)) }
 {
@@ -123,60 +121,48 @@ fn spell_next<'a>(
 
 /// Prints which checkpoint it is, how many records it has, and how many frames where it is of version 2.
 fn write_checkpoint(text: &mut Text, checkpoint: &Checkpoint)
-    requires { text.old.items ≡ [] }
     ensures { text.new.items ≡ checkpoint_line checkpoint.now }
 {
-    write_counts(text, checkpoint);
-    if checkpoint.version() != 1 {
-        add(text, b" frames");
-        add_number(text, checkpoint.frames().len() as u64);
+    let kind = kind_word(checkpoint.number());
+    let fields = [
+        Number(checkpoint.generation()),
+        Number(checkpoint.number()),
+        Word("pages"),
+        Number(checkpoint.pages().len() as u64),
+        Word("sectors"),
+        Number(checkpoint.sectors().len() as u64),
+        Word("frames"),
+        Number(checkpoint.frames().len() as u64),
+    ];
+    if checkpoint.version() == 1 {
+        write_line(text, kind, &fields[..6]);
+    } else {
+        write_line(text, kind, &fields);
     }
-    add_end(text);
-}
-
-/// Prints which checkpoint it is, and how many records it has.
-fn write_counts(text: &mut Text, checkpoint: &Checkpoint)
-    requires { text.old.items ≡ [] }
-    ensures fields { text.new.items ≡ join_with_byte 32 ((if checkpoint.now.number == 0 then codes "full" else codes "delta")
-        ∷ decimal checkpoint.now.generation ∷ decimal checkpoint.now.number ∷ codes "pages" ∷ decimal (length checkpoint.now.pages)
-        ∷ codes "sectors" ∷ decimal (length checkpoint.now.sectors) ∷ []) }
-    ensures short { array_vec_len text.new ≤ 200 }
-{
-    add(text, kind_word(checkpoint.number()));
-    add_number(text, checkpoint.generation());
-    add_number(text, checkpoint.number());
-    add(text, b" pages");
-    add_number(text, checkpoint.pages().len() as u64);
-    add(text, b" sectors");
-    add_number(text, checkpoint.sectors().len() as u64);
 }
 
 /// Whether the checkpoint of this number is full, in a word.
-fn kind_word(number: u64) -> &'static [u8]
+fn kind_word(number: u64) -> &'static str
     ensures word { result.now ≡ (if number == 0 then codes "full" else codes "delta") }
     ensures short { length result.now ≤ 5 }
 {
-    if number == 0 { b"full" } else { b"delta" }
+    if number == 0 { "full" } else { "delta" }
 }
 
 /// Prints that the bytes, so many, end inside a checkpoint.
 fn write_short(text: &mut Text, file_bytes: u64)
-    requires { text.old.items ≡ [] }
     ensures { text.new.items ≡ short_line file_bytes }
 {
-    add(text, b"short at");
-    add_number(text, file_bytes);
-    add_end(text);
+    write_line(text, "short", &[Word("at"), Number(file_bytes)]);
 }
 
 /// Prints that the bytes are malformed, and from which on.
 fn write_malformed(text: &mut Text, offset: u64)
-    requires { text.old.items ≡ [] }
     ensures { text.new.items ≡ malformed_line offset }
 {
-    add(text, b"refused");
-    add_number(text, 11);
-    add(text, b" Malformed");
-    add_number(text, offset);
-    add_end(text);
+    write_line(
+        text,
+        "refused",
+        &[Number(11), Word("Malformed"), Number(offset)],
+    );
 }

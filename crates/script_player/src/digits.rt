@@ -7,6 +7,7 @@ ghost use Rattle.arrayvec.specs.ArrayVec.{array_vec_len};
 ghost use Rattle.hex.specs.Hex.{encode_lower, lower_digits, IsBytes};
 ghost use Rattle.script_player.specs.internal.Digits.{is_lower_digit};
 
+use crate::text::add;
 use arrayvec::ArrayVec;
 use std::simd::prelude::*;
 
@@ -24,7 +25,7 @@ pub fn add_digits<const N: usize>(text: &mut ArrayVec<u8, N>, bytes: &[u8])
 {
     let mut rest = bytes;
     while let Some((block, others)) = rest.split_first_chunk::<BLOCK_BYTES>() {
-        put_last(text, &block_digits(block));
+        add(text, &block_digits(block));
         rest = others;
     }
     add_few_digits(text, rest);
@@ -40,17 +41,7 @@ fn add_few_digits<const N: usize>(text: &mut ArrayVec<u8, N>, bytes: &[u8])
     let mut digits = [0; BLOCK_DIGITS];
     let digits = &mut digits[..2 * bytes.len()];
     hex::encode_to_slice(bytes, digits).unwrap();
-    put_last(text, digits);
-}
-
-/// Puts bytes last into a text that has room for them.
-#[inline(always)]
-pub fn put_last<const N: usize>(text: &mut ArrayVec<u8, N>, bytes: &[u8])
-    requires { array_vec_len text.old + length bytes.now ≤ N }
-    ensures items { text.new.items ≡ text.old.items ++ bytes.now }
-    ensures len { array_vec_len text.new ≡ array_vec_len text.old + length bytes.now }
-{
-    let _ = text.try_extend_from_slice(bytes);
+    add(text, digits);
 }
 
 /// The digits of a block of bytes.

@@ -7,15 +7,23 @@ ghost use Rattle.pair_core.specs.Words.{word_of};
 ghost use Rattle.script_player.specs.Printed.{IsPlain, line, refusal_line, reply_line, sector_line, show_line};
 
 use crate::digits::add_digits;
-use crate::text::{Text, add, add_end, add_number, add_word};
+use crate::text::Field::{Number, Word};
+use crate::text::{Text, add, add_number, write_line};
 use pair_core::{Frame, Mode, Refusal, Reply, SECTOR_BYTES, Show};
 
 /// Prints a reply as its line.
 pub fn write_reply(text: &mut Text, reply: &Reply)
-    requires { text.old.items ≡ [] }
     ensures printed { text.new.items ≡ reply_line reply.now }
     // Whoever reads the line knows which reply it was.
     ensures readable { (other : Reply) → IsPlain other → reply_line other ≡ reply_line reply.now → other ≡ reply.now }
+{
+    spell(text, reply)
+}
+
+/// The same, of whose fields it is known that they can be read back.
+fn spell(text: &mut Text, reply: &Reply)
+    ensures printed { text.new.items ≡ reply_line reply.now }
+    ensures plain { IsPlain reply.now }
 {
     match reply {
         Reply::Steps(steps) => write_number(text, "steps", *steps),
@@ -56,19 +64,14 @@ pub fn write_reply(text: &mut Text, reply: &Reply)
 
 /// Prints `refused NO NAME`.
 pub fn write_refusal(text: &mut Text, refusal: &Refusal)
-    requires { text.old.items ≡ [] }
     ensures { text.new.items ≡ refusal_line refusal.now }
 {
-    let name = refusal.name();
-    add(text, b"refused");
-    add_number(text, u64::from(refusal.number()));
-    add_word(text, name);
-    add_end(text);
+    let number = u64::from(refusal.number());
+    write_line(text, "refused", &[Number(number), Word(refusal.name())]);
 }
 
 /// Prints the state in one line.
 pub fn write_show(text: &mut Text, show: &Show)
-    requires { text.old.items ≡ [] }
     ensures { text.new.items ≡ show_line show.now }
 {
     let Show {
@@ -78,17 +81,21 @@ pub fn write_show(text: &mut Text, show: &Show)
         steps,
         entries,
     } = *show;
-    add(text, b"mode");
-    add_word(text, mode_word(mode));
-    add(text, b" generation");
-    add_number(text, generation);
-    add(text, b" pending");
-    add_number(text, pending);
-    add(text, b" steps");
-    add_number(text, steps);
-    add(text, b" entries");
-    add_number(text, entries);
-    add_end(text);
+    write_line(
+        text,
+        "mode",
+        &[
+            Word(mode_word(mode)),
+            Word("generation"),
+            Number(generation),
+            Word("pending"),
+            Number(pending),
+            Word("steps"),
+            Number(steps),
+            Word("entries"),
+            Number(entries),
+        ],
+    );
 }
 
 /// The word that is printed of a mode.
@@ -105,84 +112,77 @@ fn mode_word(mode: Mode) -> &'static str
 
 /// Prints `sector`, the number of a sector, and its 512 bytes in lower case hex.
 pub fn write_sector(text: &mut Text, sector: u64, bytes: &[u8; SECTOR_BYTES])
-    requires { text.old.items ≡ [] }
     ensures { text.new.items ≡ sector_line sector bytes.now }
 {
-    add(text, b"sector");
+    text.clear();
+    add(text, b"sector ");
     add_number(text, sector);
     add(text, b" ");
     add_digits(text, bytes.as_slice());
-    add_end(text);
+    add(text, b"\n");
 }
 
 /// Prints a line of words alone.
 pub fn write_words(text: &mut Text, words: &str)
-    requires empty { text.old.items ≡ [] }
-    requires short { length words.now ≤ 20 }
+    requires { length words.now ≤ 20 }
     ensures { text.new.items ≡ line (words.now ∷ []) }
 {
-    add(text, words.as_bytes());
-    add_end(text);
+    write_line(text, words, &[]);
 }
 
 /// Prints what happened, and one number.
 pub fn write_number(text: &mut Text, event: &str, number: u64)
-    requires empty { text.old.items ≡ [] }
-    requires short { length event.now ≤ 20 }
+    requires { length event.now ≤ 20 }
     ensures { text.new.items ≡ line (event.now ∷ decimal number ∷ []) }
 {
-    add(text, event.as_bytes());
-    add_number(text, number);
-    add_end(text);
+    write_line(text, event, &[Number(number)]);
 }
 
 /// Prints up to which checkpoint all are acknowledged, and how many frames landed.
 fn write_acked(text: &mut Text, generation: u64, number: u64, landed: u64)
-    requires { text.old.items ≡ [] }
     ensures { text.new.items ≡ line (codes "acked" ∷ decimal generation ∷ decimal number ∷ codes "landed" ∷ decimal landed ∷ []) }
 {
-    add(text, b"acked");
-    add_number(text, generation);
-    add_number(text, number);
-    add(text, b" landed");
-    add_number(text, landed);
-    add_end(text);
+    write_line(
+        text,
+        "acked",
+        &[
+            Number(generation),
+            Number(number),
+            Word("landed"),
+            Number(landed),
+        ],
+    );
 }
 
 /// Prints what happened to a checkpoint, and which one it is.
 pub fn write_checkpoint(text: &mut Text, event: &str, generation: u64, number: u64)
-    requires empty { text.old.items ≡ [] }
-    requires short { length event.now ≤ 20 }
+    requires { length event.now ≤ 20 }
     ensures { text.new.items ≡ line (event.now ∷ decimal generation ∷ decimal number ∷ []) }
 {
-    add(text, event.as_bytes());
-    add_number(text, generation);
-    add_number(text, number);
-    add_end(text);
+    write_line(text, event, &[Number(generation), Number(number)]);
 }
 
 /// Prints what happened, the generation, and a number with its name.
 pub fn write_generation(text: &mut Text, event: &str, generation: u64, name: &str, number: u64)
-    requires empty { text.old.items ≡ [] }
     requires short { length event.now ≤ 20 }
     requires short_name { length name.now ≤ 20 }
     ensures { text.new.items ≡ line (event.now ∷ decimal generation ∷ name.now ∷ decimal number ∷ []) }
 {
-    add(text, event.as_bytes());
-    add_number(text, generation);
-    add_word(text, name);
-    add_number(text, number);
-    add_end(text);
+    write_line(
+        text,
+        event,
+        &[Number(generation), Word(name), Number(number)],
+    );
 }
 
 /// Prints `frame` and the bytes in lower case hex.
 pub fn write_frame(text: &mut Text, frame: &Frame)
-    requires { text.old.items ≡ [] }
     ensures bytes { IsBytes frame.now.items }
     ensures printed { text.new.items ≡ line (codes "frame" ∷ encode_lower frame.now.items ∷ []) }
 {
     let bytes = frame.as_slice();
+    text.clear();
     add(text, b"frame ");
     add_digits(text, bytes);
-    add_end(text);
+    add(text, b"\n");
 }

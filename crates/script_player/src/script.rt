@@ -1,40 +1,19 @@
-//! The lines of a script: what each form is, and how it is read.
+//! The lines of a script but for a client's frame: what each form is, and how it is read.
 
 ghost use Rattle.std.specs.Prelude.{◌≡◌, Some, IfSome};
-ghost use Rattle.script_player.specs.Command.{command_of, IsCommand};
+ghost use Rattle.script_player.specs.Command.{command_of, numbered_event, word_event, IsCommand};
 ghost use Rattle.script_player.specs.declared.script.Command.{Command};
 
 use crate::fields::{numbered, numbers};
+use pair_core::Event;
 
-/// A line after the boot line.
+/// A line after the boot line, but for a client's frame.
 #[derive(Clone, Copy)]
 pub enum Command {
+    /// A line that asks for an event.
+    Asks(Event<'static>),
     /// `step N`: so many guest steps, at least 1.
-    Step(u64),
-    /// `cut`: ends the epoch.
-    Cut,
-    /// `send`: sends each pending checkpoint.
-    Send,
-    /// `backup K`: the backup gets packet `K`.
-    Backup(u64),
-    /// `ack K`: the primary gets acknowledgement `K`.
-    Ack(u64),
-    /// `admit C`: the first frame of client `C`'s inbox arrives at the guest.
-    Admit(u64),
-    /// `take C`: client `C` takes the first frame of its box.
-    Take(u64),
-    /// `losein C P`: the line drops the frame at place `P`, from 0, of client `C`'s inbox.
-    LoseIn(u64, u64),
-    /// `loseout C P`: the line drops the frame at place `P`, from 0, of client `C`'s box.
-    LoseOut(u64, u64),
-    /// `fail primary`: the primary stops.
-    FailPrimary,
-    /// `fail backup`: the backup stops, and the primary goes on alone.
-    FailBackup,
-    /// `golive`: the backup goes on in the place of the stopped primary.
-    GoLive,
-    /// `protect`: the node that is alone gets a new backup.
-    Protect,
+    Steps(u64),
     /// `sector S`: the bytes of sector `S` of the disk of the guest that goes on, from 0. Beyond the disk it is a bad line.
     Sector(u64),
     /// `show`: the state in one line.
@@ -56,54 +35,74 @@ pub fn read_command(text: &[u8]) -> Option<Command>
 fn first_form(text: &[u8]) -> Option<Command>
     ensures { result ≡ command_of text.now }
 {
-    if text == b"cut".as_slice() {
-        return Some(Command::Cut);
+    if let Some(event) = word_event(text) {
+        return Some(Command::Asks(event));
     }
-    if text == b"send".as_slice() {
-        return Some(Command::Send);
-    }
-    if text == b"show".as_slice() {
-        return Some(Command::Show);
-    }
-    if text == b"fail primary".as_slice() {
-        return Some(Command::FailPrimary);
-    }
-    if text == b"fail backup".as_slice() {
-        return Some(Command::FailBackup);
-    }
-    if text == b"golive".as_slice() {
-        return Some(Command::GoLive);
-    }
-    if text == b"protect".as_slice() {
-        return Some(Command::Protect);
+    if let Some(event) = numbered_event(text) {
+        return Some(Command::Asks(event));
     }
     if let Some(count) = numbered(text, b"step ") {
         return if count == 0 {
             None
         } else {
-            Some(Command::Step(count))
+            Some(Command::Steps(count))
         };
-    }
-    if let Some(packet) = numbered(text, b"backup ") {
-        return Some(Command::Backup(packet));
-    }
-    if let Some(acknowledgement) = numbered(text, b"ack ") {
-        return Some(Command::Ack(acknowledgement));
-    }
-    if let Some(client) = numbered(text, b"admit ") {
-        return Some(Command::Admit(client));
-    }
-    if let Some(client) = numbered(text, b"take ") {
-        return Some(Command::Take(client));
     }
     if let Some(sector) = numbered(text, b"sector ") {
         return Some(Command::Sector(sector));
     }
+    if text == b"show".as_slice() {
+        return Some(Command::Show);
+    }
+    None
+}
+
+/// The event that words alone spell.
+fn word_event(text: &[u8]) -> Option<Event<'static>>
+    ensures { result ≡ word_event text.now }
+{
+    if text == b"cut".as_slice() {
+        return Some(Event::Cut);
+    }
+    if text == b"send".as_slice() {
+        return Some(Event::Send);
+    }
+    if text == b"fail primary".as_slice() {
+        return Some(Event::FailPrimary);
+    }
+    if text == b"fail backup".as_slice() {
+        return Some(Event::FailBackup);
+    }
+    if text == b"golive".as_slice() {
+        return Some(Event::GoLive);
+    }
+    if text == b"protect".as_slice() {
+        return Some(Event::Protect);
+    }
+    None
+}
+
+/// The event that words and numbers spell.
+fn numbered_event(text: &[u8]) -> Option<Event<'static>>
+    ensures { result ≡ numbered_event text.now }
+{
+    if let Some(packet) = numbered(text, b"backup ") {
+        return Some(Event::BackupGet(packet));
+    }
+    if let Some(acknowledgement) = numbered(text, b"ack ") {
+        return Some(Event::AckGet(acknowledgement));
+    }
+    if let Some(client) = numbered(text, b"admit ") {
+        return Some(Event::Admit(client));
+    }
+    if let Some(client) = numbered(text, b"take ") {
+        return Some(Event::Take(client));
+    }
     if let Some((client, place)) = numbers(text, b"losein ") {
-        return Some(Command::LoseIn(client, place));
+        return Some(Event::LoseIn(client, place));
     }
     if let Some((client, place)) = numbers(text, b"loseout ") {
-        return Some(Command::LoseOut(client, place));
+        return Some(Event::LoseOut(client, place));
     }
     None
 }

@@ -69,7 +69,7 @@ pub fn tell_bad_line<E: Sink>(number: u64, err: &mut E) -> Result<(), Failed>
     ensures { IsPut (E.written err.old) (E.written err.new) result (bad_line number) }
 {
     let mut text = Text::new();
-    add(&mut text, b"remus: line");
+    add(&mut text, b"remus: line ");
     add_number(&mut text, number);
     add(&mut text, b": bad\n");
     err.put(text.as_slice())

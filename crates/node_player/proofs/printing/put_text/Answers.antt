@@ -8,7 +8,7 @@ use Rattle.node_player.proofs.printing.put_text.Goals as goal
 pub loop-rest-init : goal.loop-rest-init
 unfolding Rattle.hex.specs.Hex.encode_with
 loop-rest-init g c =
-    let word = c.put_last.ensures.items ∙ ap (λ t. t ++ codes "text ") c.new-piece.ensures in
+    let word = c.add.ensures.items ∙ ap (λ t. t ++ codes "text ") c.new-piece.ensures in
     (omega (arith, ap length word), ([], [], refl, word, put-none (g.O.Sink.written c.args.out.now)))
 
 pub returns-in_err-put : goal.returns-in_err-put
@@ -48,7 +48,7 @@ unfolding Rattle.hex.specs.Hex.encode_with
 returns g c =
     let before = c.loop-rest.invariant.1 in
     let rest = c.loop-rest.rest.now in
-    let piece = c.as_slice-2.ensures.value ∙ c.put_last-2.ensures.items ∙ ap (λ t. t ++ codes "\n") c.add_digits-2.ensures.items in
+    let piece = c.as_slice-2.ensures.value ∙ c.add-2.ensures.items ∙ ap (λ t. t ++ codes "\n") c.add_digits-2.ensures.items in
     let all = line-goes-on before.1 c.loop-rest.piece.items (codes "text ") before.0 before.3 rest [] c.args.bytes.now (codes "\n")
     (before.2 ∙ ap (λ t. before.0 ++ t) (sym (append-nil rest))) ∙ ap (λ p. before.1 ++ p) (sym piece) in
     rw all (put-last before.4 (g.O.Sink.written c.put-2.new.self) c.as_slice-2.result.now c.put-2.result c.put-2.ensures)

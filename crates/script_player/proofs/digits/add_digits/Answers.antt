@@ -1,4 +1,4 @@
-use Rattle.std.proofs.Common.{◌+◌, [], ◌++◌, refl, sym, ap, ap₂, ◌∙◌, arith, append_assoc, append-nil}
+use Rattle.std.proofs.Common.{[], ◌++◌, refl, sym, ap, ap₂, ◌∙◌, arith, append_assoc, append-nil}
 use Rattle.std.proofs.lemmas.List.{take-append-drop}
 use Rattle.hex.specs.Hex.{encode_lower}
 use Rattle.script_player.proofs.LaneLemmas.{encode-append}
@@ -17,10 +17,10 @@ loop-block-preserved g c =
     let others = c.in-Some.others.now in
     let parts = c.in-Some.ensures.cases in
     let split = sym (ap₂ ◌++◌ parts.0 parts.1 ∙ take-append-drop 16 rest) in
-    let put = c.put_last.ensures.items ∙ ap₂ ◌++◌ before.1.2 c.block_digits.ensures
+    let put = c.add.ensures.items ∙ ap₂ ◌++◌ before.1.2 c.block_digits.ensures
     ∙ append_assoc c.args.text.now.items (encode_lower front) (encode_lower block)
     ∙ ap (λ t. c.args.text.now.items ++ t) (sym (encode-append front block)) in (
-      omega (arith, before.0, parts.2, c.put_last.ensures.len),
+      omega (arith, before.0, parts.2, c.add.ensures.len),
       (front ++ block, before.1.1 ∙ ap (λ t. front ++ t) split ∙ sym (append_assoc front block others), put),
     )
 

@@ -6,4 +6,4 @@ pub returns-in-Ok-Some : goal.returns-in-Ok-Some
 returns-in-Ok-Some c = λ no_memory.
     let ready = rw c.in-Ok-Some.field-0-is at c.in-Ok-Some.ensures.some in
     boots ready.0 c.in-Ok-Some.world.value refl ready.1 ready.2
-    (c.add.ensures ∙ ap (λ t. t ++ codes "booted\n") c.requires.empty) refl
+    (c.add.ensures.items ∙ ap (λ t. t ++ codes "booted\n") c.requires.empty) refl
