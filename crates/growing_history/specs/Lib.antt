@@ -1,7 +1,10 @@
+pub mod laws
 pub mod Steps
 pub mod LogState
 pub mod Entries
 pub mod SealedTexts
+pub mod SealedNumbers
+pub mod Waiting
 pub mod Views
 pub mod Plays
 pub mod Calls

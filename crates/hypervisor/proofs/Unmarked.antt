@@ -7,10 +7,11 @@ use Rattle.std.specs.Prelude.{nat_eq, ◌==◌, IfOk, IfErr, IfSome, IsSome, OnO
 use Rattle.checkpoint_stream.specs.Text.{text as text_of}
 use Rattle.checkpoint_stream.specs.declared.errors.StreamError.{StreamError}
 use Rattle.epoch_snapshot.specs.Checkpoints.{Change}
-use Rattle.growing_history.proofs.Between.{none-first, none-between}
-use Rattle.growing_history.proofs.LogLaws.{state-append, first, second}
-use Rattle.growing_history.proofs.Prefixes.{steps_by-append}
-use Rattle.growing_history.proofs.SealedNumbers.{FollowFrom, AreSealed, are-sealed}
+use Rattle.growing_history.specs.laws.Between.{none-first, none-between}
+use Rattle.growing_history.specs.laws.Logs.{state-append, first, second}
+use Rattle.growing_history.specs.laws.Prefixes.{steps_by-append}
+use Rattle.growing_history.specs.SealedNumbers.{FollowFrom, AreSealed}
+use Rattle.growing_history.specs.laws.Sealed.{are-sealed}
 use Rattle.growing_history.specs.LogState.{LogState, Epoch, start_of, first_backup, mark_of, IsFirstSealed, after, Needs, state_after}
 use Rattle.growing_history.specs.LogState.{LegalFrom, Legal, state_at}
 use Rattle.growing_history.specs.Steps.{What, Added, Sealed, RanAlone, Committed, PrimaryFailed, BackupFailed, WentLive, Protected, Step}
