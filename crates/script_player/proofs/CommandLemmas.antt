@@ -4,7 +4,8 @@ use Rattle.script_player.specs.{Fields.numbered_by, Command.{IsNumbered, IsComma
 use Rattle.script_player.specs.declared.script.Command.{Command, TheVariants.{Step, Cut}}
 use Rattle.script_player.specs.declared.script.Command.TheVariants.{Send, Backup, Ack, Admit, Take, LoseIn, LoseOut, FailPrimary}
 use Rattle.script_player.specs.declared.script.Command.TheVariants.{FailBackup, GoLive, Protect, Sector, Show}
-use Rattle.script_player.proofs.{FieldLemmas.operand_of-spelled, FormLemmas.{Read, same, word, told, one, two, is_numbered, read-spelled}}
+use Rattle.script_player.specs.laws.Fields.{operand_of-spelled}
+use Rattle.script_player.specs.laws.Forms.{Read, same, word, told, one, two, is_numbered, read-spelled}
 
 -- what is spelled so is read so
 pub command_of-spelled : (text : List ℕ) (command : Command) → IsCommand text command → command_of text ≡ Some command

@@ -1,7 +1,5 @@
-pub mod OptionLemmas
 mod ListLemmas
 pub mod FieldLemmas
-pub mod FormLemmas
 pub mod CommandLemmas
 pub mod WordsLemmas
 mod GuestLemmas
