@@ -6,7 +6,8 @@ use Rattle.frame_ports.specs.Lands.{has_room, landed_at}
 use Rattle.frame_ports.specs.Limits.{box_frames}
 use Rattle.pair_history.specs.Entries.{Frame, Entry, Ran, Arrive, Delivered, Refused, DropIn, Land, DropOut, Took}
 use Rattle.pair_history.specs.HistoryState.{HistoryState, Waiting, frame_numbered, without_number, at, after}
-use Rattle.pair_history.specs.Failures.{arrived_numbers, put_rising, rising, drops_of_taken_in, all_land, go_live_entries, fail_backup_entries}
+use Rattle.pair_history.specs.Failures.{arrived_numbers, put_rising, rising, drops_of_taken_in, all_land, go_live_entries}
+use Rattle.pair_history.specs.Failures.{fail_backup_entries}
 use Rattle.pair_history.specs.Landings.{landings}
 use Rattle.pair_history.specs.Order.{AreGuests}
 use Rattle.pair_history.specs.Reached.{AreRising}

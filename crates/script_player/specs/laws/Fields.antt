@@ -1,5 +1,6 @@
 -- What stands after a front, and after the number that stands first, is found again; and what is found stood there.
-use Rattle.std.proofs.Common.{◌≡◌, ◌<◌, ◌^◌, ℕ, Bool, true, false, cond, List, [], ◌∷◌, ◌++◌, length, Option, Some, None, refl, ap, ◌∙◌, subst, ◌==◌}
+use Rattle.std.proofs.Common.{◌≡◌, ◌<◌, ◌^◌, ℕ, Bool, true, false, cond, List, [], ◌∷◌, ◌++◌, length, Option, Some, None, refl, ap, ◌∙◌}
+use Rattle.std.proofs.Common.{subst, ◌==◌}
 use Rattle.std.proofs.{Common.{◌&&◌, nat_lt, arith}, lemmas.Bool.and_parts}
 use Rattle.std.specs.{Option.{option_map, option_and_then}, Str.{all_ascii_digits, Parse.digits_value}, Char.is_ascii_digit}
 use Rattle.script_player.specs.Fields.{text_after, number_of, number_in, operand_of, parted}
