@@ -1,5 +1,7 @@
 -- Blocks put into memory, one after another.
-use Rattle.epoch_snapshot.{proofs.{BlockLemmas.length-xored, PartLemmas.length-with_bytes}, specs.Blocks.xored}
+use Rattle.epoch_snapshot.specs.laws.Bytes.{length-xored}
+use Rattle.epoch_snapshot.specs.laws.Bytes.{length-with_bytes}
+use Rattle.epoch_snapshot.specs.Blocks.{xored}
 use Rattle.std.proofs.Common.{◌≡◌, ℕ, suc, ◌+◌, ◌-◌, ◌*◌, ◌<◌, ◌≤◌, ◌==◌, cond, List, [], ◌∷◌, length, take, drop, sym, ap, ◌∙◌, arith}
 use Rattle.std.proofs.lemmas.{Bool.{eq-eqb, ne_eqb}, List.{length-take-le, length-drop}}
 use Rattle.std.specs.{Int.bit_at, List.{range_with_len, filter}}

@@ -8,7 +8,8 @@ use Rattle.epoch_snapshot.specs.{declared.changes.{PageChange.PageChange, Sector
 use Rattle.epoch_snapshot.specs.{Checkpoints.{Change, block_count}, Images.{base_ram, base_sectors, image_of, with_blocks, with_sectors}}
 use Rattle.backup_image.specs.Images.{settled_machine}
 use Rattle.backup_image.proofs.BlockLemmas.{from_block, from_block-set, from_block-clear, from_block-end, same_place, length-with_xored}
-use Rattle.checkpoint_stream.proofs.Spelling.{next, block_count-drop}
+use Rattle.std.proofs.lemmas.List.{drop_more}
+use Rattle.epoch_snapshot.specs.laws.Blocks.{block_count-drop}
 
 -- what stands at the front of two lists is put first
 blocks-append : (ram : List ℕ) (ns ms : List ℕ) (bs cs : List (List ℕ)) → length ns ≡ length bs →
@@ -88,7 +89,7 @@ page-put first m put page mask i at then blocks d so_far below set long inside w
       };
       put = (λ k. with_blocks ((ram ∙ same_place m.guest.ram b page i) k) (from_page page (from_block mask (i + 1)))
           (drop (after k) blocks))
-          ∙ sym (λ k. with_blocks m.guest.ram (from_page page (named k)) (next blocks at d within k))
+          ∙ sym (λ k. with_blocks m.guest.ram (from_page page (named k)) (drop_more blocks at d within k))
           ∙ so_far.put;
       enough = omega (arith, more, so_far.enough, after);
     }
@@ -158,7 +159,7 @@ pages-put first m put pages k d blocks rest own later so_far within count split 
       };
       put = ap (λ (g : Guest). with_blocks g.ram (block_numbers (drop (k + 1) pages)) later) is
           ∙ sym (blocks-append m.guest.ram ns (block_numbers (drop (k + 1) pages)) own later same)
-          ∙ sym (λ j. with_blocks m.guest.ram ((ap block_numbers (next pages k d within) ∙ numbers-at p (drop (k + 1) pages)) j) (split j))
+          ∙ sym (λ j. with_blocks m.guest.ram ((ap block_numbers (drop_more pages k d within) ∙ numbers-at p (drop (k + 1) pages)) j) (split j))
           ∙ so_far.put;
       enough = omega (arith, block_count-drop pages k d within, so_far.enough, ap length split, length-append own later);
     }
@@ -203,7 +204,7 @@ sectors-put first m put sectors k d so_far within is size flags =
     record {
       guest = is ∙ ap (λ (g : Guest). record g { sectors = new }) so_far.guest ∙ ap (λ l. record first.guest { sectors = l }) (sym bytes);
       put = ap (λ l. with_sectors l (drop (k + 1) sectors)) bytes
-          ∙ sym (ap (with_sectors m.guest.sectors) (next sectors k d within) ∙ sectors-at m.guest.sectors s (drop (k + 1) sectors))
+          ∙ sym (ap (with_sectors m.guest.sectors) (drop_more sectors k d within) ∙ sectors-at m.guest.sectors s (drop (k + 1) sectors))
           ∙ so_far.put;
       size = size ∙ so_far.size;
       flags = flags ∙ so_far.flags;

@@ -1,5 +1,5 @@
 -- A follower of a stream stands where the bytes say, whatever the pieces were and wherever they end.
-use Rattle.checkpoint_stream.proofs.{Feeding.{fed-append, fed-closed, taken-closed, taken-byte, taken-append}, Canonical.whole-place}
+use Rattle.checkpoint_stream.specs.laws.Feeding.{fed-append, fed-closed, taken-closed, taken-byte, taken-append, whole-place}
 use Rattle.checkpoint_stream.specs.{declared.place.Place.{Place, TheVariants.Whole}, Readings.{Reading, begun, fed_byte, fed, taken}}
 use Rattle.checkpoint_stream.specs.{Readings.{is_whole, is_closed}, Sound.change_in, Text.text, Widths.HasWidths, ReadBack.ReadsBack}
 use Rattle.std.proofs.Common.{◌≡◌, ℕ, suc, ◌+◌, ◌<◌, List, [], ◌∷◌, ◌++◌, length, Bool, true, false, refl, sym, ap, subst, ◌∙◌, arith, take}

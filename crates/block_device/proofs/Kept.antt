@@ -3,7 +3,7 @@
 use Rattle.std.proofs.Common.{◌≡◌, ℕ, ◌-◌, ◌/◌, Bool, true, false, if◌then◌else◌, List, [], ◌∷◌, length, drop, ap, ◌∙◌}
 use Rattle.std.specs.Prelude.{Ok, Err}
 use Rattle.virtqueue.specs.{declared.broken.Broken.TheVariants.Short, Chains.Spelled, Parts.{readable_bytes, writable_places, put_at}}
-use Rattle.virtqueue.proofs.Lengths.{length_put_at}
+use Rattle.virtqueue.specs.laws.Lengths.{length_put_at}
 use Rattle.virtio_mmio.specs.{declared.{kinds.DeviceKind.TheVariants.Block, states.DeviceState.DeviceState}, States.IsDeviceRecord}
 use Rattle.virtio_mmio.{specs.ServingLoop.{Acted, standing}, proofs.{Loop.served_keeps_rules, Lengths.served-length}}
 use Rattle.block_device.specs.{Contents.{Contents, capacity, IsDisk}, Request.{Outcome, request_of, outcome, answered, chain_answered}}

@@ -3,7 +3,8 @@ use Rattle.std.proofs.Common.{◌≡◌, ℕ, ◌+◌, ◌-◌, ◌*◌, ◌/◌
 use Rattle.std.proofs.Common.{ap, ◌∙◌, if◌then◌else◌, length, take, drop, nat_le, arith, append_assoc, length-append, length-take-le}
 use Rattle.std.proofs.{Common.{length-drop, slice_range}, lemmas.{Bool.Decides.nat_tests, List.{take_at, drop_at, drop-append-le}}}
 use Rattle.std.proofs.{lemmas.List.{take-append-le, drop-drop, take-take, drop-take}, Math.Seq.drop-append-add}
-use Rattle.virtqueue.{specs.Memory.written, proofs.Lengths.length_written}
+use Rattle.virtqueue.specs.Memory.{written}
+use Rattle.virtqueue.specs.laws.Lengths.{length_written}
 use Rattle.block_device.specs.{Contents.{Contents, sector_at, in_capacity, contents_with, bytes_at}, Request.{Outcome, Request, outcome}}
 use Rattle.block_device.specs.Request.{read_outcome, write_outcome}
 use Rattle.block_device.proofs.Serving.{in_capacity_tells, whole_sectors, read_size, write_cases, by_kind}

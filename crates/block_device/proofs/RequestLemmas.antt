@@ -3,7 +3,7 @@ use Rattle.std.proofs.Common.{Bool, ◌≡◌, ℕ, ◌+◌, ◌-◌, ◌<◌, �
 use Rattle.std.{proofs.{Common.{length, drop, nat_lt, arith, length-drop, ◌⊎◌}, lemmas.Bool.Decides.nat_tests}, specs.Prelude.{Ok, Err}}
 use Rattle.virtqueue.specs.{declared.{broken.Broken.TheVariants.Short, chains.Descriptor.Descriptor}, Chains.{Spelled, BuffersInside}}
 use Rattle.virtqueue.specs.Parts.{readable_len, writable_len, readable_bytes, writable_places, put_at}
-use Rattle.virtqueue.proofs.Lengths.{length_readable, length_places}
+use Rattle.virtqueue.specs.laws.Lengths.{length_readable, length_places}
 use Rattle.virtio_mmio.specs.ServingLoop.{Acted}
 use Rattle.block_device.specs.{Contents.{Contents, in_capacity, contents_with}, Request.{Outcome, Request, request_of, outcome}}
 use Rattle.block_device.specs.Request.{write_outcome, chain_answered, written_len, is_short, request_act}

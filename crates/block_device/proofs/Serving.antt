@@ -4,7 +4,8 @@ use Rattle.std.proofs.{Common.{subst, ◌∙◌, if◌then◌else◌, length, na
 use Rattle.std.specs.Prelude.{Result, Ok, Err}
 use Rattle.virtqueue.specs.{declared.broken.Broken.{Broken, TheVariants.Short}, Memory.written, Areas.available_of, Chains.Spelled}
 use Rattle.virtqueue.specs.{Chains.{chain_of, ◌>>=◌}, Parts.{readable_bytes, writable_places}}
-use Rattle.virtqueue.proofs.{Lengths.length_written, Inside.bind_ok}
+use Rattle.virtqueue.specs.laws.Lengths.{length_written}
+use Rattle.virtqueue.specs.laws.Parts.{bind_ok}
 use Rattle.virtio_mmio.specs.{declared.{kinds.DeviceKind.DeviceKind, states.DeviceState.DeviceState}, States.queue_at, Serving.can_serve}
 use Rattle.virtio_mmio.specs.ServingLoop.{Acted, Served, standing, puts_used, one_served, or_breaks, chains_served, served}
 use Rattle.block_device.specs.{Dirty.with_written, Contents.{Contents, capacity, in_capacity, contents_with, bytes_at, IsDisk}}

@@ -74,7 +74,7 @@ fn used_len(room: u64, len: u32) -> u32
 
 impl Storage {
     /// Reads sectors into the `room` first places of a chain.
-    #[tactic(auto, using(virtqueue::proofs::Scattered::put_none))]
+    #[tactic(auto, using(virtqueue::specs::laws::Parts::put_none))]
     fn read_request<R: GuestRam>(&self, ram: &mut R, chain: &Chain, sector: u64, room: u64) -> Done
         requires inside { BuffersInside (length (R.bytes ram.old)) chain.now.parts }
         requires fits { room ≤ writable_len chain.now.parts }
@@ -114,7 +114,7 @@ impl Storage {
     }
 
     /// Does what a request asks of the disk, and reads what it asks for into the `room` first places of its chain.
-    #[tactic(auto, using(virtqueue::proofs::Scattered::put_none))]
+    #[tactic(auto, using(virtqueue::specs::laws::Parts::put_none))]
     fn carry_out<R: GuestRam>(
         &mut self,
         ram: &mut R,

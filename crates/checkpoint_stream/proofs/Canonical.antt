@@ -4,7 +4,8 @@ use Rattle.std.proofs.Common.{◌==◌, ◌&&◌, ◌||◌, IsTrue, List, [], �
 use Rattle.std.proofs.Common.{nat_le, get_or, bit_and, lit<}
 use Rattle.checkpoint_stream.{proofs.StateRead.low_half, specs.declared.rules.{Row.Row, Width.TheVariants.Four, Rule.TheVariants.Magic}}
 use Rattle.checkpoint_stream.specs.{declared.place.Place.{Place, TheVariants.Whole}, HeadTable.{head_table, passes, number}}
-use Rattle.checkpoint_stream.specs.{Readings.{Reading, is_whole, is_full, has_frames}, Sound.{IsSound, IsHead, HasRecords, HasFrames}}
+use Rattle.checkpoint_stream.specs.Readings.{Reading, is_full, has_frames}
+use Rattle.checkpoint_stream.specs.Sound.{IsSound, IsHead, HasRecords, HasFrames}
 use Rattle.checkpoint_stream.specs.Sound.{AllPass, StandsAt, FramesAt, change_in, state_from, version_from}
 use Rattle.guest_machine.specs.{declared.shapes.Shape.Shape, MachineStates.IsMachineState}
 use Rattle.virtio_mmio.specs.States.{is_queue_size, IsQueueRecord}
@@ -162,7 +163,3 @@ canonical r h whole =
         full_frames = λ e. nil_from_length r.frames (omega (arith, frames.full (full-test r records.known e)));
       },
     )
-
-pub whole-place : (p : Place) → is_whole p ≡ true → p ≡ Whole
-whole-place Whole e = refl
-whole-place other e = absurd (cc)

@@ -4,6 +4,7 @@ use Rattle.std.proofs.Common.{subst, take, drop, length-drop, arith, append_asso
 use Rattle.std.proofs.{lemmas.{Bool.Decides.nat_tests, List.{append-nil, take_at}}, Math.Seq.{take-length, take-add}}
 use Rattle.checkpoint_stream.proofs.Begun.{with_more, judged-more}
 use Rattle.checkpoint_stream.specs.{Taken.Takes, Readings.{Reading, is_closed, width_of, judged, fed_byte, fed, taken}}
+use Rattle.checkpoint_stream.specs.laws.Feeding.{fed-append, fed-closed, taken-closed, taken-append}
 
 fed_byte-inside : (r : Reading) (b : ℕ) → is_closed r.place ≡ false → (length r.partial + 1 == width_of r) ≡ false →
     fed_byte r b ≡ with_more r (b ∷ [])
@@ -63,11 +64,6 @@ Takes-whole r (b ∷ c ∷ bs) going some whole =
     Takes-byte r b (c ∷ bs) (judged r (r.partial ++ b ∷ c ∷ bs)) going
     (rw (fed_byte-inside r b going here, ← same) rest)
 
-pub fed-append : (r : Reading) (xs ys : List ℕ) → fed r (xs ++ ys) ≡ fed (fed r xs) ys
-unfolding fed
-fed-append r [] ys = refl
-fed-append r (x ∷ xs) ys = fed-append (fed_byte r x) xs ys
-
 -- the same, from what a call says of the reading after it
 pub Takes-unit : (r after : Reading) (bytes : List ℕ) → is_closed r.place ≡ false → r.partial ≡ [] → 0 < length bytes →
     length bytes ≡ width_of r →
@@ -97,32 +93,6 @@ take-filled m held bytes rest e =
 pub with_more-at : (v r : Reading) (l bytes : List ℕ) → v ≡ r → l ≡ v.partial ++ bytes → record v { partial = l } ≡ with_more r bytes
 with_more-at v r l bytes same is =
     ap (λ (partial : List ℕ). record v { partial = partial }) is ∙ ap (λ (s : Reading). with_more s bytes) same
-
--- what is closed takes nothing
-pub fed-closed : (r : Reading) (ys : List ℕ) → is_closed r.place ≡ true → fed r ys ≡ r
-unfolding fed fed_byte
-fed-closed r [] closed = refl
-fed-closed r (y ∷ ys) closed = rw closed (fed-closed r ys closed)
-
-pub taken-closed : (r : Reading) (ys : List ℕ) → is_closed r.place ≡ true → taken r ys ≡ 0
-unfolding taken
-taken-closed r [] closed = refl
-taken-closed r (y ∷ ys) closed = rw closed refl
-
-pub taken-byte : (r : Reading) (b : ℕ) (bs : List ℕ) → is_closed r.place ≡ false → taken r (b ∷ bs) ≡ suc (taken (fed_byte r b) bs)
-unfolding taken
-taken-byte r b bs going = rw going (omega arith)
-
-taken-step : (closed : Bool) (n m : ℕ) → (if closed then 0 else 1 + n) ≡ suc m → (closed ≡ false) × (n ≡ m)
-taken-step true n m e = absurd (omega arith)
-taken-step false n m e = (refl, omega arith)
-
-pub taken-append : (r : Reading) (xs ys : List ℕ) → taken r xs ≡ length xs → taken r (xs ++ ys) ≡ length xs + taken (fed r xs) ys
-unfolding taken fed
-taken-append r [] ys all = omega arith
-taken-append r (x ∷ xs) ys all =
-    let step : (is_closed r.place ≡ false) × (taken (fed_byte r x) xs ≡ length xs) = taken-step _ _ _ all in
-    rw (step.0) (omega (arith, taken-append (fed_byte r x) xs ys step.1))
 
 pub Takes-append : (r m s : Reading) (xs ys : List ℕ) → Takes r xs m → Takes m ys s → Takes r (xs ++ ys) s
 Takes-append r m s xs ys front back =

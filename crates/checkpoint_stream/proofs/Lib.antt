@@ -1,7 +1,6 @@
 pub mod Begun
 pub mod Failing
 pub mod Feeding
-pub mod Extending
 pub mod Spelling
 pub mod Holding
 pub mod Soundness

@@ -1,5 +1,6 @@
 -- What is read whole is the text of what it gives.
-use Rattle.checkpoint_stream.proofs.{Feeding.{taken-byte, fed-closed, taken-closed}, Numbers.{IsByte, limit_of, number-small}}
+use Rattle.checkpoint_stream.specs.laws.Feeding.{taken-byte, fed-closed, taken-closed}
+use Rattle.checkpoint_stream.proofs.Numbers.{IsByte, limit_of, number-small}
 use Rattle.checkpoint_stream.proofs.{Soundness.{fed_byte-sound, begun-sound}, Spelling.text-spelled, Spelled.{heads, pages_of, sectors_of}}
 use Rattle.checkpoint_stream.proofs.{Spelled.{records_of, ending_of, front, SpellsAt, IsWritten, judged_at-written}, HeadBack.Narrow}
 use Rattle.checkpoint_stream.proofs.HeadBack.{Narrow-push, head-kept}

@@ -1,8 +1,8 @@
 -- A loop that puts the units of a list at the end of some bytes, one element after another.
 use Rattle.std.proofs.Common.{◌≡◌, ℕ, ◌+◌, ◌<◌, ◌≤◌, List, [], ◌∷◌, ◌++◌, length, take, drop, get_or, refl, sym, ◌∙◌, ap, append_assoc}
-use Rattle.std.proofs.{Common.{add-one, count_ones, All, take_all, subst}, lemmas.List.{append-nil, drop_all, Concat.flat_map-cons}}
-use Rattle.std.{proofs.{lemmas.List.Sums.sum_by-cons, Math.Seq.drop-cons}, specs.List.flat_map}
-use Rattle.epoch_snapshot.specs.{declared.changes.{PageChange.PageChange, SectorChange.SectorChange}, Checkpoints.{Change, block_count}}
+use Rattle.std.proofs.{Common.{count_ones, All, take_all, subst}, lemmas.List.{append-nil, drop_all, drop_more, Concat.flat_map-cons}}
+use Rattle.std.specs.List.{flat_map}
+use Rattle.epoch_snapshot.specs.{declared.changes.{PageChange.PageChange, SectorChange.SectorChange}, Checkpoints.Change}
 use Rattle.checkpoint_stream.specs.{declared.rules.{Row.Row, Width.TheVariants.{Four, Eight}}, HeadTable.{bytes_of, head_table}, Text.text}
 use Rattle.checkpoint_stream.specs.Text.{units, units_of_frames, head_numbers, joined, number_units, page_units, sector_units, frame_units}
 use Rattle.arrayvec.specs.ArrayVec.{ArrayVec}
@@ -17,9 +17,6 @@ advance out unit put rest before whole so_far front is =
 pub finish : (out before whole : List ℕ) → out ++ before ≡ whole → before ≡ [] → out ≡ whole
 finish out before whole so_far nothing = sym (append-nil out) ∙ ap (λ (l : List ℕ). out ++ l) (sym nothing) ∙ so_far
 
-pub next : {X : Type 0} (xs : List X) (i : ℕ) (d : X) → i < length xs → drop i xs ≡ get_or xs i d ∷ drop (i + 1) xs
-next xs i d h = rw (add-one) (drop-cons xs i d h)
-
 units-at : (rows : List Row) (ns : List ℕ) (row : Row) (n : ℕ) →
     joined (number_units (row ∷ rows) (n ∷ ns)) ≡ bytes_of row.width n ++ joined (number_units rows ns)
 unfolding joined number_units
@@ -29,7 +26,7 @@ pub number_units-drop : (rows : List Row) (ns : List ℕ) (i : ℕ) (row : Row) 
     joined (number_units (drop i rows) (drop i ns)) ≡ bytes_of (get_or rows i row).width (get_or ns i n)
     ++ joined (number_units (drop (i + 1) rows) (drop (i + 1) ns))
 number_units-drop rows ns i row n h k =
-    rw (next rows i row h, next ns i n k) (units-at (drop (i + 1) rows) (drop (i + 1) ns) (get_or rows i row) (get_or ns i n))
+    rw (drop_more rows i row h, drop_more ns i n k) (units-at (drop (i + 1) rows) (drop (i + 1) ns) (get_or rows i row) (get_or ns i n))
 
 pub number_units-done : (rows : List Row) (ns : List ℕ) (i : ℕ) → length rows ≤ i → joined (number_units (drop i rows) ns) ≡ []
 unfolding joined number_units
@@ -44,7 +41,7 @@ pub sector_units-drop : (ss : List SectorChange) (i : ℕ) (d : SectorChange) �
     joined (sector_units (drop i ss)) ≡ (bytes_of Four (get_or ss i d).sector ++ (get_or ss i d).bytes)
     ++ joined (sector_units (drop (i + 1) ss))
 sector_units-drop ss i d h =
-    rw (next ss i d h) (sector-at (get_or ss i d) (drop (i + 1) ss)
+    rw (drop_more ss i d h) (sector-at (get_or ss i d) (drop (i + 1) ss)
     ∙ sym (append_assoc (bytes_of Four (get_or ss i d).sector) (get_or ss i d).bytes (joined (sector_units (drop (i + 1) ss)))))
 
 pub sector_units-done : (ss : List SectorChange) (i : ℕ) → length ss ≤ i → joined (sector_units (drop i ss)) ≡ []
@@ -78,16 +75,11 @@ pub page_units-drop : (ps : List PageChange) (blocks : List (List ℕ)) (i : ℕ
     joined (page_units (drop i ps) blocks)
     ≡ (bytes_of Four (get_or ps i d).page ++ bytes_of Eight (get_or ps i d).mask ++ joined (take (count_ones (get_or ps i d).mask) blocks))
     ++ joined (page_units (drop (i + 1) ps) (drop (count_ones (get_or ps i d).mask) blocks))
-page_units-drop ps blocks i d h = rw (next ps i d h) (page-spelled (get_or ps i d) (drop (i + 1) ps) blocks)
+page_units-drop ps blocks i d h = rw (drop_more ps i d h) (page-spelled (get_or ps i d) (drop (i + 1) ps) blocks)
 
 pub page_units-done : (ps : List PageChange) (blocks : List (List ℕ)) (i : ℕ) → length ps ≤ i → joined (page_units (drop i ps) blocks) ≡ []
 unfolding joined page_units
 page_units-done ps blocks i h = rw (drop_all i ps h) refl
-
-pub block_count-drop : (ps : List PageChange) (i : ℕ) (d : PageChange) → i < length ps →
-    block_count (drop i ps) ≡ count_ones (get_or ps i d).mask + block_count (drop (i + 1) ps)
-block_count-drop ps i d h = ap block_count (next ps i d h)
-    ∙ sum_by-cons (λ (p : PageChange). count_ones p.mask) (get_or ps i d) (drop (i + 1) ps)
 
 pub page_units-split : (ps : List PageChange) (blocks own later : List (List ℕ)) (i : ℕ) (d : PageChange) → i < length ps →
     own ≡ take (count_ones (get_or ps i d).mask) blocks → later ≡ drop (count_ones (get_or ps i d).mask) blocks →
@@ -168,7 +160,7 @@ pub frame_units-drop : (fs : List (ArrayVec ℕ)) (i : ℕ) (d : ArrayVec ℕ) �
     joined (frame_units (drop i fs)) ≡ (bytes_of Four (length (get_or fs i d).items) ++ (get_or fs i d).items)
     ++ joined (frame_units (drop (i + 1) fs))
 frame_units-drop fs i d h =
-    rw (next fs i d h) (frame-at (get_or fs i d) (drop (i + 1) fs)
+    rw (drop_more fs i d h) (frame-at (get_or fs i d) (drop (i + 1) fs)
     ∙ sym (append_assoc (bytes_of Four (length (get_or fs i d).items)) (get_or fs i d).items (joined (frame_units (drop (i + 1) fs)))))
 
 pub frame_units-done : (fs : List (ArrayVec ℕ)) (i : ℕ) → length fs ≤ i → joined (frame_units (drop i fs)) ≡ []

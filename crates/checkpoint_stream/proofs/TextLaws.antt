@@ -4,8 +4,15 @@ use Rattle.std.proofs.Common.{refl, sym, ◌∙◌, ap, subst, arith, length-app
 use Rattle.guest_machine.specs.declared.shapes.Shape.{Shape}
 use Rattle.epoch_snapshot.specs.Checkpoints.{Change, IsCanonical}
 use Rattle.checkpoint_stream.specs.{declared.place.Place.TheVariants.{Whole, Failed}, Readings.{Reading, begun, is_closed, fed_byte, fed}}
-use Rattle.checkpoint_stream.{specs.{Readings.taken, Sound.change_in, Taken.Takes, Text.text, Widths.HasWidths}, proofs.Feeding.fed-append}
-use Rattle.checkpoint_stream.proofs.{Feeding.{fed-closed, taken-closed, fed-done, taken-done}, TextRead.{whole, text-taken, whole-change}}
+use Rattle.checkpoint_stream.specs.Readings.{taken}
+use Rattle.checkpoint_stream.specs.Sound.{change_in}
+use Rattle.checkpoint_stream.specs.Taken.{Takes}
+use Rattle.checkpoint_stream.specs.Text.{text}
+use Rattle.checkpoint_stream.specs.Widths.{HasWidths}
+use Rattle.checkpoint_stream.specs.laws.Feeding.{fed-append}
+use Rattle.checkpoint_stream.specs.laws.Feeding.{fed-closed, taken-closed}
+use Rattle.checkpoint_stream.proofs.Feeding.{fed-done, taken-done}
+use Rattle.checkpoint_stream.proofs.TextRead.{whole, text-taken, whole-change}
 
 -- no more is taken than what closed the reading
 taken-front : (r : Reading) (xs ys : List ℕ) → is_closed (fed r xs).place ≡ true → taken r (xs ++ ys) ≤ length xs

@@ -1,3 +1,4 @@
+pub mod laws
 pub mod HeadTable
 pub mod Readings
 pub mod Taken

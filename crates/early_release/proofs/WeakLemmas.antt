@@ -43,11 +43,11 @@ use Rattle.arrayvec.specs.ArrayVec.{ArrayVec}
 use Rattle.frame_ports.specs.Lands.{list_of, with_list, has_room, landed_at}
 use Rattle.frame_ports.specs.Numbers.{is_new, after_landing}
 use Rattle.frame_ports.specs.Ports.{PortsState, box_of}
-use Rattle.frame_ports.proofs.NumberLaws.{landed_new}
+use Rattle.frame_ports.specs.laws.Numbers.{landed_new}
 use Rattle.output_gate.specs.Epochs.{Epoch, epoch, frames_of, frames_to}
 use Rattle.output_gate.specs.Landings.{clients_for, landed_for, ports_after}
-use Rattle.output_gate.proofs.EpochLaws.{frames_of-append}
-use Rattle.output_gate.proofs.PortsAfterLaws.{next_same-after, inboxes_same-after}
+use Rattle.output_gate.specs.laws.Epochs.{frames_of-append}
+use Rattle.output_gate.specs.laws.Ports.{next_same-after, inboxes_same-after}
 use Rattle.early_release.specs.Weak.{OnlyLands}
 
 module _ (held : List (ArrayVec ℕ)) where

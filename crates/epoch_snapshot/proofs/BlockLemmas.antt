@@ -17,11 +17,6 @@ xored_twice [] (y ∷ ys) e = absurd (omega arith)
 xored_twice (x ∷ xs) [] e = absurd (omega arith)
 xored_twice (x ∷ xs) (y ∷ ys) e = λ i. xor_twice x y i ∷ xored_twice xs ys (omega arith) i
 
-pub length-xored : (xs ys : List ℕ) → length xs ≡ length ys → length (xored xs ys) ≡ length xs
-length-xored [] ys e = refl
-length-xored (x ∷ xs) [] e = sym e
-length-xored (x ∷ xs) (y ∷ ys) e = ap suc (length-xored xs ys (omega arith))
-
 pub or_parts : (a b : Bool) → (a || b) ≡ false → (a ≡ false) × (b ≡ false)
 or_parts true b e = absurd (true≢false e)
 or_parts false b e = (refl, e)

@@ -8,7 +8,10 @@ use Rattle.epoch_snapshot.specs.{declared.changes.{PageChange.PageChange, Sector
 use Rattle.epoch_snapshot.specs.{Blocks.{block_in, block_differs, set_blocks, xored}, Checkpoints.{Change, IsCanonical}, Images.image_of}
 use Rattle.epoch_snapshot.specs.Cuts.{page_change, is_changed, changed_pages, block_change, changed_blocks, sector_change, changed_sectors}
 use Rattle.epoch_snapshot.specs.Cuts.{used_sectors}
-use Rattle.epoch_snapshot.proofs.{MaskLemmas.changed_mask-lt, BlockLemmas.{length-block, length-xored}, CutLemmas.block_numbers-changed}
+use Rattle.epoch_snapshot.proofs.MaskLemmas.{changed_mask-lt}
+use Rattle.epoch_snapshot.proofs.BlockLemmas.{length-block}
+use Rattle.epoch_snapshot.specs.laws.Bytes.{length-xored}
+use Rattle.epoch_snapshot.proofs.CutLemmas.{block_numbers-changed}
 use Rattle.epoch_snapshot.proofs.PageLemmas.{block_in-page, map_agree_in, one_page, zero_block}
 use Rattle.epoch_snapshot.proofs.{SectorLemmas.{Rises-used, used-nonzero, length-sector_of}, ImageLemmas.{IsCanonical-cut, image-full, count_is}}
 

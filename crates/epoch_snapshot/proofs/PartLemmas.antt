@@ -4,17 +4,6 @@ use Rattle.std.proofs.{Common.length-append, Math.Seq.take-add, lemmas.List.{tak
 use Rattle.std.proofs.lemmas.List.{length-take-le, length-drop, drop-append-le, take_all, append_assoc}
 use Rattle.guest_machine.specs.Bytes.{with_bytes}
 
--- replaced bytes are as many as before
-pub length-with_bytes : (xs new : List ℕ) (at : ℕ) → at + length new ≤ length xs → length (with_bytes xs at new) ≡ length xs
-length-with_bytes xs new at fits =
-    let front : length (take at xs) ≡ at = length-take-le at xs (omega arith) in
-    omega (
-      arith,
-      length-append (take at xs) (new ++ drop (at + length new) xs),
-      length-append new (drop (at + length new) xs),
-      length-drop (at + length new) xs,
-    )
-
 -- the part that was replaced
 pub part-same : (xs new : List ℕ) (at n : ℕ) → length new ≡ n → at + n ≤ length xs → take n (drop at (with_bytes xs at new)) ≡ new
 part-same xs new at n e fits =

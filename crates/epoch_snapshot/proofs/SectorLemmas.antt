@@ -7,7 +7,9 @@ use Rattle.std.specs.{Prelude.{All, IsTrue, ◌↔◌, slice_range}, List.{range
 use Rattle.guest_machine.specs.{Dirty.{Rises, is_in}, Bytes.with_bytes}
 use Rattle.epoch_snapshot.specs.{declared.changes.SectorChange.SectorChange, Blocks.is_zero, Cuts.{sector_of, sector_change}}
 use Rattle.epoch_snapshot.specs.{Cuts.{changed_sectors, used_sectors}, Images.with_sectors}
-use Rattle.epoch_snapshot.proofs.{PartLemmas.{length-with_bytes, part-same, part-below, part-above, same_from_parts}, BlockLemmas.or_parts}
+use Rattle.epoch_snapshot.specs.laws.Bytes.{length-with_bytes}
+use Rattle.epoch_snapshot.proofs.PartLemmas.{part-same, part-below, part-above, same_from_parts}
+use Rattle.epoch_snapshot.proofs.BlockLemmas.{or_parts}
 use Rattle.epoch_snapshot.proofs.{CanonicalLemmas.{Rises-filter, all_mapped}, PageLemmas.filter_last}
 use Rattle.guest_machine.specs.Guest.{sector_count, sector_of as sector_in_place}
 

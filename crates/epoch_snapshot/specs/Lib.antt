@@ -1,3 +1,4 @@
+pub mod laws
 pub mod Bases
 pub mod Blocks
 pub mod Checkpoints

@@ -4,4 +4,3 @@ mod RingLemmas
 mod TargetLemmas
 pub mod LandLaws
 pub mod AddressLaws
-pub mod NumberLaws

@@ -29,7 +29,7 @@ use Rattle.frame_ports.specs.Ports.{PortsState, IsClient, box_of}
 use Rattle.frame_ports.specs.internal.Fields.{ports_state, AreFields}
 use Rattle.frame_ports.specs.declared.ports.Ports.TheInside.{Inside}
 use Rattle.frame_ports.proofs.LandLaws.{landed_at-room}
-use Rattle.frame_ports.proofs.NumberLaws.{after_landing-new}
+use Rattle.frame_ports.specs.laws.Numbers.{after_landing-new}
 use Rattle.frame_ports.proofs.PortsLemmas.{
   box_changed,
   box_seen,

@@ -1,4 +1,5 @@
 pub mod internal
+pub mod laws
 pub use Rattle.arrayvec.specs.ArrayVec
 pub mod Addresses
 pub mod Lands

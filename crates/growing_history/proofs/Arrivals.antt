@@ -7,10 +7,11 @@ use native.Mathlib.Decide.{ℕ_discrete}
 use Rattle.pair_history.specs.Entries.{Frame, Arrive}
 use Rattle.pair_history.specs.HistoryState.{HistoryState, Waiting, inbox_of, frame_numbered, without_number, IsFirst, IsClient, at}
 use Rattle.pair_history.specs.HistoryState as history
-use Rattle.pair_history.specs.internal.Moves.{AreRising}
+use Rattle.pair_history.specs.Reached.{AreRising}
 use Rattle.pair_history.specs.Reached.{IsReached}
-use Rattle.pair_history.proofs.Waiting.{AreRising-without, StandsAt, leaves-at, first-waits}
-use Rattle.pair_history.proofs.TakenInLaws.{without_numbers, AllWait}
+use Rattle.pair_history.specs.laws.Waits.{without_numbers-append, rising-without_numbers}
+use Rattle.pair_history.specs.laws.Waiting.{AreRising-without, StandsAt, leaves-at, first-waits}
+use Rattle.pair_history.specs.Waits.{without_numbers, AllWait}
 use Rattle.growing_history.specs.LogState.{first_frames}
 
 -- frames of these numbers arrive in this order
@@ -21,14 +22,6 @@ CanArrive (n ∷ ns) ws = IsFirst n ws × CanArrive ns (without_number n ws)
 arrive-append : (ns ms : List ℕ) (ws : List Waiting) → CanArrive ns ws → CanArrive ms (without_numbers ns ws) → CanArrive (ns ++ ms) ws
 arrive-append [] ms ws a b = b
 arrive-append (n ∷ ns) ms ws a b = (a.0, arrive-append ns ms (without_number n ws) a.1 b)
-
-without-append : (ns ms : List ℕ) (ws : List Waiting) → without_numbers (ns ++ ms) ws ≡ without_numbers ms (without_numbers ns ws)
-without-append [] ms ws = refl
-without-append (n ∷ ns) ms ws = without-append ns ms (without_number n ws)
-
-rising-without : (first end : ℕ) (ns : List ℕ) (ws : List Waiting) → AreRising first end ws → AreRising first end (without_numbers ns ws)
-rising-without first end [] ws r = r
-rising-without first end (n ∷ ns) ws r = rising-without first end ns (without_number n ws) (AreRising-without n first end ws r)
 
 arrivals-legal : (s : HistoryState) (ns : List ℕ) → CanArrive ns s.waiting → history.Legal s (map Arrive ns)
 arrivals-legal s [] a = tt
@@ -81,10 +74,10 @@ module _ (first end : ℕ) where
       let ms = first_frames m (c + 1) ws in
       let later = without_numbers ns now in
       let one = first-of 4 c inbox now r (same c (omega arith)) in
-      let all = first-of-all m (c + 1) ws later (rising-without first end ns now r)
+      let all = first-of-all m (c + 1) ws later (rising-without_numbers first end ns now r)
       (λ d low. one.2 d (λ e. absurd (omega (arith, low, e))) ∙ same d (omega (arith, low))) in
       let apart : (d : ℕ) → inbox_of d (without_numbers (ns ++ ms) now) ≡ inbox_of d (without_numbers ms later) =
-      λ d. ap (inbox_of d) (without-append ns ms now) in (
+      λ d. ap (inbox_of d) (without_numbers-append ns ms now) in (
         arrive-append ns ms now one.0 all.0,
         (λ d low high. apart d ∙ dite (ℕ_discrete d c)
             (λ e. all.2 d (omega (arith, e)) ∙ subst (λ k. inbox_of k later ≡ drop 4 (inbox_of k ws)) (sym e) one.1)

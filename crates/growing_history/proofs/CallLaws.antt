@@ -6,7 +6,7 @@ use Rattle.pair_history.specs.HistoryState.{HistoryState}
 use Rattle.growing_history.specs.Steps.{Added, Step, step, Begins, steps_by}
 use Rattle.growing_history.specs.LogState.{Legal, history_of, client_seat}
 use Rattle.growing_history.specs.Entries.{own_entries, announced_in, announced, IsCall}
-use Rattle.growing_history.proofs.LogLaws.{begun, history-begins, history-snoc}
+use Rattle.growing_history.specs.laws.Logs.{begun, history-begins, history-snoc}
 use Rattle.growing_history.proofs.OwnEntries.{history-own}
 
 announced-append : (xs ys : List Step) → announced (xs ++ ys) ≡ announced xs ++ announced ys

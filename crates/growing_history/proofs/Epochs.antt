@@ -7,28 +7,10 @@ use Rattle.pair_history.specs.HistoryState as history
 use Rattle.pair_history.specs.Order.{AreGuests, NoneTakes}
 use Rattle.pair_history.specs.Failures.{arrived_numbers}
 use Rattle.growing_history.specs.LogState.{LogState, IsEpoch, entries_of, under_way, sealed_state}
-use Rattle.growing_history.proofs.LogLaws.{Legal-append, legal-first, legal-second}
+use Rattle.pair_history.specs.laws.Histories.{Legal-append, legal-first, legal-second}
+use Rattle.pair_history.specs.laws.{Histories.{guests-append, guests-first}, Waits.arrived_numbers-append}
 
--- What the guest does, in two parts.
-
-pub guests-append : (xs ys : List Entry) → AreGuests xs → AreGuests ys → AreGuests (xs ++ ys)
-guests-append [] ys a b = b
-guests-append (e ∷ xs) ys a b = (a.0, guests-append xs ys a.1 b)
-
-pub guests-first : (xs ys : List Entry) → AreGuests (xs ++ ys) → AreGuests xs
-guests-first [] ys g = tt
-guests-first (e ∷ xs) ys g = (g.0, guests-first xs ys g.1)
-
-pub guests-second : (xs ys : List Entry) → AreGuests (xs ++ ys) → AreGuests ys
-guests-second [] ys g = g
-guests-second (e ∷ xs) ys g = guests-second xs ys g.1
-
--- What it takes in, in two parts.
-
-arrived-append : (xs ys : List Entry) → arrived_numbers (xs ++ ys) ≡ arrived_numbers xs ++ arrived_numbers ys
-arrived-append [] ys = refl
-arrived-append (Arrive n ∷ xs) ys = ap (λ l. n ∷ l) (arrived-append xs ys)
-arrived-append (other ∷ xs) ys = arrived-append xs ys
+-- What the guest takes in, in two parts.
 
 takes-append : (n : ℕ) (xs ys : List Entry) → NoneTakes n xs → NoneTakes n ys → NoneTakes n (xs ++ ys)
 takes-append n [] ys a b = b
@@ -57,7 +39,7 @@ epoch-first s p q e = (
   guests-first p q e.0,
   (
     arrived_numbers q ++ e.1.0,
-    e.1.1 ∙ (ap (λ l. l ++ e.1.0) (arrived-append p q) ∙ append_assoc (arrived_numbers p) (arrived_numbers q) e.1.0),
+    e.1.1 ∙ (ap (λ l. l ++ e.1.0) (arrived_numbers-append p q) ∙ append_assoc (arrived_numbers p) (arrived_numbers q) e.1.0),
   ),
 )
 

@@ -9,7 +9,8 @@ use Rattle.pair_history.specs.HistoryState.{HistoryState}
 use Rattle.growing_history.specs.Steps.{Step, Begins, steps_by}
 use Rattle.growing_history.specs.Views.{View, nobody, Fits, Kept}
 use Rattle.growing_history.specs.Plays.{Meets}
-use Rattle.growing_history.proofs.Prefixes.{begins-nil, begins-through, at_snoc_place}
+use Rattle.growing_history.specs.laws.Prefixes.{begins-nil, begins-through}
+use Rattle.growing_history.proofs.Prefixes.{at_snoc_place}
 
 pub off : false ≡ true → ⊥
 off e = true≢false (sym e)

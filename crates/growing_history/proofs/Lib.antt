@@ -3,8 +3,6 @@ pub mod Prefixes
 pub mod Fitting
 pub mod Moves
 pub mod Members
-pub mod LogLaws
-pub mod Between
 pub mod Epochs
 pub mod LinesFirst
 pub mod OwnEntries
@@ -17,6 +15,4 @@ pub mod SeatNumbers
 pub mod FailureLaws
 pub mod ServiceLaws
 pub mod Lives
-pub mod WaitsAlong
-pub mod SealedNumbers
 pub mod Unmarked

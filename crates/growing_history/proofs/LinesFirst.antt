@@ -1,13 +1,11 @@
 -- What clients and their lines do comes before what is under way.
-use Rattle.std.proofs.Common.{◌≡◌, ◌≢◌, ℕ, List, [], ◌∷◌, Bool, true, false, refl, ap, ◌∙◌, cond}
+use Rattle.std.proofs.Common.{◌≡◌, ◌≢◌, ℕ, List, [], ◌∷◌, refl, ap, ◌∙◌}
 use Rattle.std.specs.Prelude.{Some}
-use Rattle.frame_ports.specs.Lands.{has_room, landed_at}
 use Rattle.pair_history.specs.Entries.{Frame, Entry, Ran, Arrive, Delivered, DropIn, Land, DropOut}
 use Rattle.pair_history.specs.HistoryState.{HistoryState, frame_numbered, at}
 use Rattle.pair_history.specs.HistoryState as history
 use Rattle.pair_history.specs.Order.{AreGuests, NoneTakes, IsReady}
-use Rattle.pair_history.specs.Landings.{landings}
-use Rattle.pair_history.proofs.Waiting.{frame_numbered-more, found-without}
+use Rattle.pair_history.specs.laws.Waiting.{frame_numbered-more, found-without}
 use Rattle.growing_history.specs.LogState.{IsOwn, AreOwn, IsKnown, AreKnown}
 
 -- that what is ready can go before what the guest does
@@ -25,20 +23,6 @@ entry-guest by other h o = refl
 pub entries-guest : (by : ℕ) (es : List Entry) (h : HistoryState) → AreOwn by es → (at h es).guest ≡ h.guest
 entries-guest by [] h o = refl
 entries-guest by (e ∷ es) h o = entries-guest by es (history.after h e) o.1 ∙ entry-guest by e h o.0
-
--- What lands moves neither the guest nor what waits for it.
-pub landings-leave : (boxes : List (List Frame)) (ps : List (ℕ × Frame)) (h : HistoryState)
-    → ((at h (landings boxes ps)).guest ≡ h.guest) × ((at h (landings boxes ps)).waiting ≡ h.waiting)
-landings-leave boxes [] h = (refl, refl)
-landings-leave boxes (p ∷ ps) h = by_test _ (has_room boxes p.0) (landings-leave (landed_at boxes p.0 p.1) ps)
-  where
-    Leaves : List Entry → HistoryState → Type 0
-    Leaves es g = ((at g es).guest ≡ g.guest) × ((at g es).waiting ≡ g.waiting)
-
-    by_test : (place : ℕ) (t : Bool) → ((g : HistoryState) → Leaves (landings (landed_at boxes p.0 p.1) ps) g)
-        → Leaves (cond t (Land p.0) (DropOut p.0 place) ∷ landings (landed_at boxes p.0 p.1) ps) h
-    by_test place true rest = rest (history.after h (Land p.0))
-    by_test place false rest = rest (history.after h (DropOut p.0 place))
 
 -- They can go before what the guest does that takes in nothing but what is under way, and the state after both is the same.
 module _ (way target : List Entry) (takes : (n : ℕ) → NoneTakes n way → NoneTakes n target) where

@@ -5,7 +5,7 @@ use Rattle.growing_history.specs.Steps.{Step, steps_by}
 use Rattle.growing_history.specs.LogState.{Legal}
 use Rattle.growing_history.specs.Views.{View, IsKeeper, IsMember}
 use Rattle.growing_history.specs.Plays.{Meets, with_member, member_of, stepped}
-use Rattle.growing_history.proofs.Prefixes.{steps_by-own}
+use Rattle.growing_history.specs.laws.Prefixes.{steps_by-own}
 
 pub IsKeeper-stepped : (start : HistoryState) (v : View) (x : Step) → IsKeeper start v → Legal start (v.steps ++ x ∷ [])
     → IsKeeper start (stepped x v)

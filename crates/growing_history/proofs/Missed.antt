@@ -11,13 +11,16 @@ use Rattle.growing_history.specs.Steps.{What, Added, Sealed, RanAlone, Committed
 use Rattle.growing_history.specs.Steps.{Begins, steps_by}
 use Rattle.growing_history.specs.LogState.{LogState, Epoch, start_of, entries_of, under_way, sealed_state, IsEpoch, after, Needs}
 use Rattle.growing_history.specs.LogState.{state_after, LegalFrom, Legal, state_at}
-use Rattle.growing_history.proofs.Between.{none-first, none-between, same, earlier, later}
-use Rattle.growing_history.proofs.LogLaws.{at-append, legal-first, legal-second, stands, marked, marks-stay}
-use Rattle.growing_history.proofs.LogLaws.{numbers, numbers-rise, lawful, way-after}
+use Rattle.growing_history.specs.laws.Between.{none-first, none-between, same, earlier, later}
+use Rattle.pair_history.specs.laws.Histories.{at-append, legal-first, legal-second}
+use Rattle.growing_history.specs.laws.Logs.{stands, marked, marks-stay}
+use Rattle.growing_history.specs.laws.Logs.{numbers, numbers-rise, lawful, way-after}
 use Rattle.growing_history.proofs.Epochs.{takes-first, takes-second, epoch-first, with-epoch-guests, with-epoch-takes, with-epoch-legal}
 use Rattle.growing_history.proofs.Epochs.{same_guest, same_sent}
-use Rattle.growing_history.proofs.LinesFirst.{GoesFirst, landings-leave, lines-first, lines-guest, frame-stays}
-use Rattle.growing_history.proofs.OwnEntries.{sealed-guests}
+use Rattle.growing_history.proofs.LinesFirst.{GoesFirst, lines-first, lines-guest, frame-stays}
+use Rattle.pair_history.specs.laws.Landings.{landings-unmoved}
+use Rattle.growing_history.specs.laws.Sealed.{sealed-guests}
+use Rattle.growing_history.specs.laws.Sealed.{guests-after}
 
 -- a commit moves the first sealed epoch to the history
 committed-state : (h : HistoryState) (es : List Epoch) → at (at h (entries_of (take 1 es))) (entries_of (drop 1 es)) ≡ at h (entries_of es)
@@ -95,7 +98,7 @@ step-keeps go s by PrimaryFailed n needs g way none other is now = same-keeps s 
 step-keeps go s by BackupFailed n needs g way none other is now =
     let far = sealed_state s in
     let apart = at-append s.history (entries_of s.sealed) (all_land far) in
-    let leave = landings-leave far.boxes far.out far in
+    let leave = landings-unmoved far.boxes far.out far in
     near-keeps s (after s BackupFailed) (ap (λ (h : HistoryState). h.guest) apart ∙ leave.0)
     (ap (λ (h : HistoryState). h.waiting) apart ∙ leave.1)
 step-keeps go s by (WentLive r) n needs g way none other is now = absurd (omega (arith, needs.may.2.0, is, now))
@@ -132,11 +135,6 @@ steps-keep go s (x ∷ xs) n l g way none others is now =
       guest = λ epoch e. rest.guest epoch (e.0, (e.1.0, held ∙ e.1.1)) ∙ one.guest epoch e;
       frames = λ before later m f h waits. rest.frames before later m f (held ∙ h) (one.frames before later m f h waits);
     }
-
-pub guests-after : (s : LogState) (xs : List Step) → LegalFrom s xs → AreGuests (entries_of s.sealed)
-    → AreGuests (entries_of (state_after s xs).sealed)
-guests-after s [] l g = g
-guests-after s (x ∷ xs) l g = guests-after (after s x.what) xs l.1 (sealed-guests s x.by x.what l.0.may g)
 
 -- What the law says, of two lists from the start.
 module _ (h : HistoryState) (old now : List Step) (n : ℕ) (b : Begins old now) (l : Legal h now)

@@ -7,8 +7,8 @@ use Rattle.growing_history.specs.Steps.{What, Added, Sealed, RanAlone, Committed
 use Rattle.growing_history.specs.Steps.{Begins, steps_by}
 use Rattle.growing_history.specs.LogState.{LogState, start_of, is_filling, IsAlone, MaySeal, after, Needs, state_after, LegalFrom, Legal}
 use Rattle.growing_history.specs.LogState.{state_at}
-use Rattle.growing_history.proofs.LogLaws.{numbers, numbers-rise}
-use Rattle.growing_history.proofs.Between.{none-first, none-between, same, later}
+use Rattle.growing_history.specs.laws.Logs.{numbers, numbers-rise}
+use Rattle.growing_history.specs.laws.Between.{none-first, none-between, same, later}
 use Rattle.growing_history.proofs.LinesFirst.{entries-guest}
 
 -- A backup whose pair isn't alone now wasn't alone then; it is filled now where it was then, and then the history has the guest that it

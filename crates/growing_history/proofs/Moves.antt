@@ -13,7 +13,7 @@ use Rattle.growing_history.specs.LogState.{Legal}
 use Rattle.growing_history.specs.Views.{View, unopened, nobody, keeper_view, Fits, Kept, Rule}
 use Rattle.growing_history.specs.Plays.{Opens, one_more, newcomer, with_member, without_member, member_of, Met, stepped, Counted}
 use Rattle.growing_history.specs.Plays.{saw, Looks, badge_of, heard}
-use Rattle.growing_history.proofs.Prefixes.{begins-self, begins-nil, begins-more, steps_by-own, steps_by-other}
+use Rattle.growing_history.specs.laws.Prefixes.{begins-self, begins-nil, begins-more, steps_by-own, steps_by-other}
 use Rattle.growing_history.proofs.Fitting.{off, none≢some, now_owned, owned_here, owned_else, fits_set, fits_more, still_fits, word_set}
 use Rattle.growing_history.proofs.Fitting.{word_is, word_left, some_is, told, same_log, nobody_fits, was_there}
 

@@ -1,7 +1,7 @@
 -- A client's entries in the history are those that its own steps announced.
 use Rattle.std.proofs.Common.{◌≡◌, ℕ, zero, suc, ◌+◌, ◌≤◌, List, [], ◌∷◌, ◌++◌, map, take, drop, refl, sym, ap, ◌∙◌}
 use Rattle.std.proofs.Common.{subst, cond, arith}
-use Rattle.std.proofs.Common.{Bool, true, false, eq-eqb, ne_eqb, append_assoc}
+use Rattle.std.proofs.Common.{Bool, true, false, eq-eqb, ne_eqb}
 use Rattle.std.specs.Prelude.{◌==◌, nat_lt}
 use Rattle.std.proofs.lemmas.List.{append-nil}
 use mathlib.Core.Logic.{dite}
@@ -17,8 +17,9 @@ use Rattle.growing_history.specs.Steps.{What, Added, Sealed, RanAlone, Committed
 use Rattle.growing_history.specs.Steps.{steps_by}
 use Rattle.growing_history.specs.LogState.{LogState, Epoch, start_of, entries_of, under_way, added, after, IsOwn, AreOwn, MayStep}
 use Rattle.growing_history.specs.LogState.{client_seat, LegalFrom, history_from, Legal, history_of}
-use Rattle.growing_history.proofs.Epochs.{guests-append, guests-first, guests-second}
+use Rattle.pair_history.specs.laws.Histories.{guests-first}
 use Rattle.growing_history.specs.Entries.{is_of, own_entries, announced_in, announced}
+use Rattle.growing_history.specs.laws.Sealed.{sealed-guests}
 
 own-append : (c : ℕ) (xs ys : List Entry) → own_entries c (xs ++ ys) ≡ own_entries c xs ++ own_entries c ys
 own-append c [] ys = refl
@@ -107,33 +108,9 @@ own-added c by es p o = by_test (by == client_seat c) refl
     by_test true is = all es o is
     by_test false is = none es o is
 
--- what is sealed is the guest's
-pub entries-append : (xs ys : List Epoch) → entries_of (xs ++ ys) ≡ entries_of xs ++ entries_of ys
-entries-append [] ys = refl
-entries-append (e ∷ xs) ys = ap (λ l. e.entries ++ l) (entries-append xs ys) ∙ sym (append_assoc e.entries (entries_of xs) (entries_of ys))
-
 first-guests : (es : List Epoch) → AreGuests (entries_of es) → AreGuests (entries_of (take 1 es))
 first-guests [] g = tt
 first-guests (e ∷ es) g = subst AreGuests (sym (append-nil e.entries)) (guests-first e.entries (entries_of es) g)
-
-rest-guests : (es : List Epoch) → AreGuests (entries_of es) → AreGuests (entries_of (drop 1 es))
-rest-guests [] g = tt
-rest-guests (e ∷ es) g = guests-second e.entries (entries_of es) g
-
-pub sealed-guests : (s : LogState) (by : ℕ) (w : What) → MayStep s by w → AreGuests (entries_of s.sealed)
-    → AreGuests (entries_of (after s w).sealed)
-sealed-guests s by (Added es) m g = g
-sealed-guests s by (Sealed x zero epoch text) m g = tt
-sealed-guests s by (Sealed x (suc n) epoch text) m g =
-    let e : Epoch = record { number = suc n; entries = epoch; text = text } in
-    subst AreGuests (sym (entries-append s.sealed (e ∷ [])))
-    (guests-append (entries_of s.sealed) (epoch ++ []) g (subst AreGuests (sym (append-nil epoch)) m.4.0))
-sealed-guests s by (RanAlone epoch) m g = g
-sealed-guests s by (Committed x n text) m g = rest-guests s.sealed g
-sealed-guests s by PrimaryFailed m g = g
-sealed-guests s by BackupFailed m g = tt
-sealed-guests s by (WentLive r) m g = tt
-sealed-guests s by (Protected b) m g = g
 
 off_if : (t : Bool) → [] ≡ cond t (announced_in PrimaryFailed) []
 off_if true = refl

@@ -10,7 +10,8 @@ use Rattle.pair_history.specs.Released.{account, WasSent, IsPartOf, IsSound}
 use Rattle.growing_history.specs.Steps.{Step}
 use Rattle.growing_history.specs.LogState.{Legal, state_at, under_way, history_of}
 use Rattle.growing_history.specs.Service.{Answers}
-use Rattle.growing_history.proofs.LogLaws.{legal-first, legal-second, history-lawful}
+use Rattle.pair_history.specs.laws.Histories.{legal-first, legal-second}
+use Rattle.growing_history.specs.laws.Logs.{history-lawful}
 
 -- what an entry needs says what it answers
 answered : (s : HistoryState) (e : Entry) → history.Allows s e → Answers s e

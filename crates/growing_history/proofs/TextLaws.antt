@@ -1,8 +1,7 @@
 -- Where each text was sealed rightly, those that are still to be committed make their guests in turn, and carry what these send.
 use Rattle.std.proofs.Common.{◌≡◌, ℕ, zero, suc, List, [], ◌∷◌, ◌++◌, map, take, drop, refl, sym, ap, ◌∙◌, subst, append_assoc, arith}
 use Rattle.std.proofs.lemmas.List.{append-nil}
-use Rattle.guest_machine.specs.Guest.{Guest}
-use Rattle.pair_history.specs.Entries.{Frame, Entry, Arrive}
+use Rattle.pair_history.specs.Entries.{Entry, Arrive}
 use Rattle.pair_history.specs.HistoryState.{HistoryState, at, sent_along}
 use Rattle.pair_history.specs.HistoryState as history
 use Rattle.pair_history.specs.Order.{AreGuests}
@@ -13,10 +12,13 @@ use Rattle.growing_history.specs.LogState.{LogState, mode_filled, Epoch, start_o
 use Rattle.growing_history.specs.LogState.{under_way, IsAlone, HasBackup, MaySeal, after, Needs, state_after, LegalFrom, Legal}
 use Rattle.growing_history.specs.LogState.{state_at}
 use Rattle.growing_history.specs.SealedTexts.{Reading, Makes, IsMade, AreMadeFrom, AreMade, MakeInTurn}
-use Rattle.growing_history.proofs.LogLaws.{at-append, legal-first, marked, marks-stay, way-after}
-use Rattle.growing_history.proofs.Epochs.{guests-append, guests-first, guests-second, takes-first, same_sent}
-use Rattle.growing_history.proofs.OwnEntries.{entries-append, sealed-guests}
+use Rattle.pair_history.specs.laws.Histories.{at-append, legal-first}
+use Rattle.growing_history.specs.laws.Logs.{marked, marks-stay, way-after}
+use Rattle.pair_history.specs.laws.Histories.{guests-append, guests-first, guests-second}
+use Rattle.growing_history.proofs.Epochs.{takes-first, same_sent}
+use Rattle.growing_history.specs.laws.Sealed.{entries-append, sealed-guests}
 use Rattle.growing_history.proofs.LinesFirst.{GoesFirst, lines-guest}
+use Rattle.growing_history.specs.laws.Texts.{makes-same}
 
 -- a node that is alone has nothing sealed
 no-alone : (m : Mode) → HasBackup m → IsAlone m → ⊥
@@ -71,14 +73,6 @@ sent-added go by es h before epoch later gb ge o k l way =
     ∙ ap (λ (x : HistoryState). x.guest) (at-append h before p))
 
 module _ (reads : Reading) where
-  -- the guests of both ends, and the frames, may be named otherwise
-  pub makes-same : (n : ℕ) (text : List ℕ) (fs gs : List Frame) (a b c d : Guest) → fs ≡ gs → a ≡ b → c ≡ d → Makes reads n text fs a c
-      → Makes reads n text gs b d
-  makes-same zero text fs gs a b c d r p q m =
-      λ base. subst (λ (x : List Frame × Guest). reads text x.0 base x.1) (λ i. (r i, q i)) (m base)
-  makes-same (suc n) text fs gs a b c d r p q m =
-      subst (λ (x : List Frame × Guest × Guest). reads text x.0 x.1 x.2) (λ i. (r i, p i, q i)) m
-
   -- entries of the clients' lines leave it so
   turn-added : GoesFirst → (by : ℕ) (es : List Entry) (h : HistoryState) (sealed : List Epoch) (before more : List Entry) → AreGuests before
       → AreGuests (entries_of sealed) → AreOwn by es → AreKnown (before ++ (entries_of sealed ++ more)) h by es → history.Legal h es
@@ -101,7 +95,7 @@ module _ (reads : Reading) where
       let here = lines-guest all before (λ n. takes-first n before ((e.entries ++ entries_of sealed) ++ more)) go by es h gb o k l
       (legal-first h before _ way) in
       let there = lines-guest (next ++ rest) next (λ n. takes-first n next rest) go by es h gn o k' l (legal-first h next rest way') in (
-        makes-same e.number e.text _ _ _ _ _ _ (sym sends) (sym here) (sym there) m.0,
+        makes-same reads e.number e.text _ _ _ _ _ _ (sym sends) (sym here) (sym there) m.0,
         turn-added go by es h sealed next more gn (guests-second e.entries (entries_of sealed) gs) o k' l way' m.1,
       )
 
@@ -110,7 +104,7 @@ module _ (reads : Reading) where
       → MakeInTurn reads (at h first) before sealed
   turn-shift h first before [] m = tt
   turn-shift h first before (e ∷ es) m = (
-    makes-same e.number e.text _ _ _ _ _ _ (ap (λ g. sent_along g e.entries) (at-append h first before))
+    makes-same reads e.number e.text _ _ _ _ _ _ (ap (λ g. sent_along g e.entries) (at-append h first before))
         (ap (λ (g : HistoryState). g.guest) (at-append h first before))
         (ap (λ l. (at h l).guest) (append_assoc first before e.entries)
         ∙ ap (λ (g : HistoryState). g.guest) (at-append h first (before ++ e.entries))) m.0,
@@ -123,7 +117,7 @@ module _ (reads : Reading) where
       (at h ((before ++ entries_of sealed) ++ e.entries)).guest
       → MakeInTurn reads h before (sealed ++ e ∷ [])
   turn-last h before [] e m n = (
-    makes-same e.number e.text _ _ _ _ _ _ (ap (λ l. sent_along (at h l) e.entries) (append-nil before))
+    makes-same reads e.number e.text _ _ _ _ _ _ (ap (λ l. sent_along (at h l) e.entries) (append-nil before))
         (ap (λ l. (at h l).guest) (append-nil before))
         (ap (λ l. (at h (l ++ e.entries)).guest) (append-nil before)) n,
     tt,
@@ -149,7 +143,7 @@ module _ (reads : Reading) where
       let all : entries_of (s.sealed ++ e ∷ []) ≡ entries_of s.sealed ++ epoch =
       entries-append s.sealed (e ∷ []) ∙ ap (λ l. entries_of s.sealed ++ l) (append-nil epoch) in
       turn-last s.history [] s.sealed e m
-      (makes-same (suc n) text _ _ _ _ _ _ refl refl (ap (λ l. (at s.history l).guest) all) (made none))
+      (makes-same reads (suc n) text _ _ _ _ _ _ refl refl (ap (λ l. (at s.history l).guest) all) (made none))
   turn-step go s by (RanAlone epoch) needs g way none empty made m =
       subst (λ es. MakeInTurn reads (after s (RanAlone epoch)).history [] es) (sym (empty needs.may.1)) tt
   turn-step go s by (Committed x n text) needs g way none empty made m = first_gone s.sealed m
@@ -180,17 +174,3 @@ module _ (reads : Reading) where
       → MakeInTurn reads (state_at h xs).history [] (state_at h xs).sealed
   unfolding Legal state_at AreMade
   texts-in-turn go h xs l made none = turn-steps go (start_of h) xs l tt tt none (λ a. absurd a) made tt
-
-  made-joined : (s : LogState) (xs : List Step) (x : Step) → AreMadeFrom reads s xs → IsMade reads (state_after s xs) x.what
-      → AreMadeFrom reads s (xs ++ x ∷ [])
-  made-joined s [] x m n = (n, tt)
-  made-joined s (y ∷ xs) x m n = (m.0, made-joined (after s y.what) xs x m.1 n)
-
-  pub made-nil : (h : HistoryState) → AreMade reads h []
-  unfolding AreMade
-  made-nil h = tt
-
-  pub made-goes-on : (h : HistoryState) (xs : List Step) (x : Step) → AreMade reads h xs → IsMade reads (state_at h xs) x.what
-      → AreMade reads h (xs ++ x ∷ [])
-  unfolding AreMade state_at
-  made-goes-on h xs x m n = made-joined (start_of h) xs x m n

@@ -11,10 +11,11 @@ use Rattle.growing_history.specs.LogState.{LogState, Epoch, start_of, first_back
 use Rattle.growing_history.specs.LogState.{LegalFrom, Legal, state_at}
 use Rattle.growing_history.specs.Steps.{What, Added, Sealed, RanAlone, Committed, PrimaryFailed, BackupFailed, WentLive, Protected, Step}
 use Rattle.growing_history.specs.Steps.{step, Begins, steps_by}
-use Rattle.growing_history.proofs.Between.{none-first, none-between, same, later}
-use Rattle.growing_history.proofs.LogLaws.{state-append, first, second}
-use Rattle.growing_history.proofs.Prefixes.{steps_by-append}
-use Rattle.growing_history.proofs.SealedNumbers.{FollowFrom, AreSealed, are-sealed}
+use Rattle.growing_history.specs.laws.Between.{none-first, none-between, same, later}
+use Rattle.growing_history.specs.laws.Logs.{state-append, first, second}
+use Rattle.growing_history.specs.laws.Prefixes.{steps_by-append}
+use Rattle.growing_history.specs.SealedNumbers.{FollowFrom, AreSealed}
+use Rattle.growing_history.specs.laws.Sealed.{are-sealed}
 
 -- the backup of the first generation is the first one
 record IsFirst (s : LogState) : Type 0 where

@@ -1,9 +1,12 @@
+pub mod laws
 pub mod Steps
 pub mod LogState
 pub mod Away
 pub mod Entries
 pub mod SealedTexts
 pub mod FirstGeneration
+pub mod SealedNumbers
+pub mod Waiting
 pub mod Views
 pub mod Plays
 pub mod Calls

@@ -21,7 +21,7 @@ use Rattle.block_device.proofs.Serving.{disk_size}
 use Rattle.block_device.proofs.Kept.{disk_served-length, disk_served-rules, disk_served-capacity}
 use Rattle.guest_machine.specs.Guest.{Guest, sector_count, disk_kind, HasDeviceRecords, boot_guest}
 use Rattle.guest_machine.specs.Step.{acted, disk_acted, timer_stored, step_done, next, arrived}
-use Rattle.paged_memory.proofs.BytesLemmas.{length-with_number}
+use Rattle.paged_memory.specs.laws.Bytes.{length-with_number}
 use Rattle.guest_machine.proofs.StepCases.{step_case}
 
 -- what stays of a guest g in one that came from it: the number of the bytes and of the sectors, and the records' rules

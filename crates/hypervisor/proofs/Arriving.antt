@@ -11,10 +11,10 @@ use Rattle.pair_history.specs.Entries.{Entry, Frame, Arrive, Ran}
 use Rattle.pair_history.specs.HistoryState.{HistoryState, Waiting, frame_numbered, without_number, with_arrived, at, after}
 use Rattle.pair_history.specs.HistoryState.{sent_along, sent_by, Legal}
 use Rattle.pair_history.specs.Reached.{AreRising}
-use Rattle.pair_history.specs.internal.Waits.{without_numbers, AllWait}
-use Rattle.pair_history.proofs.States.{at-append}
-use Rattle.pair_history.proofs.Waiting.{AreRising-without, found-without, first-waits, gone}
-use Rattle.pair_history.proofs.WaitsLaws.{without_numbers-append}
+use Rattle.pair_history.specs.Waits.{without_numbers, AllWait}
+use Rattle.pair_history.specs.laws.Histories.{at-append}
+use Rattle.pair_history.specs.laws.Waiting.{AreRising-without, found-without, first-waits, gone}
+use Rattle.pair_history.specs.laws.Waits.{without_numbers-append}
 use Rattle.pair_book.specs.Settled.{epoch_of, numbers_of}
 use Rattle.hypervisor.specs.Runs.{after_arrivals, frames_of}
 

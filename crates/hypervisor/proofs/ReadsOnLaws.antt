@@ -4,7 +4,7 @@ use Rattle.std.proofs.lemmas.List.Elements.{All-nil, All-append}
 use Rattle.std.specs.Prelude.{All}
 use Rattle.guest_machine.specs.declared.shapes.Shape.{Shape}
 use Rattle.epoch_snapshot.specs.Checkpoints.{Change}
-use Rattle.checkpoint_stream.proofs.Feeding.{fed-append, fed-closed, taken-closed, taken-byte}
+use Rattle.checkpoint_stream.specs.laws.Feeding.{fed-append, fed-closed, taken-closed, taken-byte}
 use Rattle.checkpoint_stream.specs.declared.place.Place.TheVariants.{Whole}
 use Rattle.checkpoint_stream.specs.Readings.{Reading, begun, fed_byte, fed, taken, is_closed}
 use Rattle.checkpoint_stream.specs.{Sound.change_in, Text.text}

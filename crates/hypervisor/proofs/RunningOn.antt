@@ -11,10 +11,10 @@ use Rattle.pair_history.specs.Entries.{Entry, Frame, Arrive}
 use Rattle.pair_history.specs.HistoryState.{HistoryState, at, sent_along, frame_numbered}
 use Rattle.pair_history.specs.HistoryState as history
 use Rattle.pair_history.specs.Reached.{IsReached}
-use Rattle.pair_history.specs.internal.Waits.{AllWait}
+use Rattle.pair_history.specs.Waits.{AllWait}
 use Rattle.growing_history.specs.LogState.{LogState, state_at, history_of, under_way, sealed_state, entries_of}
 use Rattle.growing_history.specs.Views.{Member}
-use Rattle.growing_history.proofs.LogLaws.{legal-first, legal-second}
+use Rattle.pair_history.specs.laws.Histories.{legal-first, legal-second}
 use Rattle.pair_book.specs.Settled.{Runs, Follows, epoch_of, numbers_of}
 use Rattle.hypervisor.specs.Runners.{RunnerState, outside}
 use Rattle.hypervisor.specs.Runs.{HasRun, after_arrivals, frames_of, guest_ready}

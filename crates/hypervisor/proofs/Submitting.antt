@@ -19,7 +19,7 @@ use Rattle.growing_history.specs.LogState.{LogState, Legal, Needs, MayStep, stat
 use Rattle.growing_history.specs.SealedTexts.{Makes as TextMakes}
 use Rattle.growing_history.specs.Steps.{What, Step, step, Begins, steps_by}
 use Rattle.growing_history.specs.Views.{Member}
-use Rattle.growing_history.proofs.Prefixes.{steps_by-own}
+use Rattle.growing_history.specs.laws.Prefixes.{steps_by-own}
 use Rattle.pair_book.specs.Books.{BookState}
 use Rattle.pair_book.specs.Calls.{Makes, IsWhy, is_word_full}
 use Rattle.pair_book.specs.declared.prepared.Prepared.{Prepared}

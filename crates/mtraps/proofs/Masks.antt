@@ -29,6 +29,7 @@ use Rattle.std.specs.Int.Bits.{or_zero_r}
 use Rattle.std.proofs.lemmas.Nat.{and_mask, and_assoc, and_or_apart}
 use Rattle.std.proofs.lemmas.Nat.Bits.{and_pow, bit_at-lt, and_high_mask}
 use Rattle.mtraps.specs.CsrTable.{csr_table, csr, legal_value}
+use Rattle.mtraps.specs.laws.Masks.{mepc_kept}
 
 -- all 64 bits are kept
 pub and_all : (v : ℕ) → v < 2 ^ 64 → bit_or (bit_and v 0xffffffffffffffff) 0 ≡ v
@@ -80,11 +81,6 @@ legal_status true true = refl
 legal_status true false = refl
 legal_status false true = refl
 legal_status false false = refl
-
--- what mepc keeps
-pub mepc_kept : (v : ℕ) → legal_value 0x341 v ≡ bit_and v 0xfffffffffffffffc
-unfolding legal_value csr csr_table
-mepc_kept v = or_zero_r _
 
 -- so it is a multiple of 4
 pub mepc_aligned : (v : ℕ) → v < 2 ^ 64 → legal_value 0x341 v ≡ v → v % 4 ≡ 0

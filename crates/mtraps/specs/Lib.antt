@@ -1,3 +1,4 @@
+pub mod laws
 pub mod CsrTable
 pub mod Interrupts
 pub mod Status

@@ -7,7 +7,7 @@ use Rattle.virtqueue.specs.declared.broken.Broken.TheVariants.{Direction}
 use Rattle.virtqueue.specs.Areas.{available_of, AreasFit, IsSized}
 use Rattle.virtqueue.specs.Chains.{Spelled, chain_of, next_chain_of, ◌>>=◌}
 use Rattle.virtqueue.specs.Parts.{all_readable, readable_bytes, all_writable, writable_len, writable_places, put_at}
-use Rattle.virtqueue.proofs.Lengths.{length_put_at, length_used_written, areas_available}
+use Rattle.virtqueue.specs.laws.Lengths.{length_put_at, length_used_written, areas_available}
 use Rattle.virtio_mmio.specs.declared.kinds.DeviceKind.TheVariants.{Network}
 use Rattle.virtio_mmio.specs.declared.states.DeviceState.{DeviceState}
 use Rattle.virtio_mmio.specs.States.{queue_at, IsDeviceRecord}

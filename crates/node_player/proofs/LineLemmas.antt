@@ -2,7 +2,7 @@
 use Rattle.std.proofs.Common.{◌≡◌, ℕ, List, Option, Some, None, Result, Ok, Err, IfOk, IfSome, OnErr, sym, ap, ◌∙◌, codes}
 use Rattle.std.specs.Option.{option_map}
 use Rattle.script_player.specs.{Fields.text_after, Boot.{BootLine, IsBoot}, Delivery.IsHex}
-use Rattle.script_player.proofs.{FieldLemmas.{text_after-some, text_after-append}}
+use Rattle.script_player.specs.laws.Fields.{text_after-some, text_after-append}
 use Rattle.node_player.specs.Lines.{Line, boot, order, arrive, piece, HasBytes, IsLine}
 use Rattle.node_player.specs.Orders.{IsOrder, order_of}
 use Rattle.node_player.specs.declared.orders.Order.{Order}

@@ -3,9 +3,9 @@ use Rattle.std.proofs.Common.{◌≡◌, ◌≤◌, ℕ, Bool, true, false, cond
 use Rattle.std.proofs.Common.{IfSome, refl, ap, arith, ◌∙◌, nat_eq, codes}
 use Rattle.std.specs.Option.{option_and_then}
 use Rattle.script_player.specs.{Fields.{text_after, number_of, numbered_by, operand_of, with_second}, Command.IsNumbered}
-use Rattle.script_player.proofs.FieldLemmas.{text_after-some, operand_of-spelled, operand_of-read}
-use Rattle.script_player.proofs.OptionLemmas.{and_then_some, map_some, pair_parts}
-use Rattle.script_player.proofs.FormLemmas.{Read, same, word, told, one, two, is_numbered, read-spelled}
+use Rattle.script_player.specs.laws.Fields.{text_after-some, operand_of-spelled, operand_of-read}
+use Rattle.script_player.specs.laws.Options.{and_then_some, map_some, pair_parts}
+use Rattle.script_player.specs.laws.Forms.{Read, same, word, told, one, two, is_numbered, read-spelled}
 use Rattle.node_player.specs.Orders.{IsOrder, order_of, HasThreeNumbers, three_by, IsShaped, is_shaped}
 use Rattle.node_player.specs.declared.orders.Order.{Order}
 use Rattle.node_player.specs.declared.orders.Order.TheVariants.{Standby, Step, Cut, Text, Ack, Alone, Protect, Commit, Restart, GoLive}

@@ -8,7 +8,7 @@ use Rattle.std.specs.Prelude.{slice_index}
 use Rattle.hex.specs.Hex.{encode_lower, encode_with, lower_digits}
 use Rattle.std.proofs.KnownBytes.{Appends-nil, Appends-trans}
 use Rattle.script_player.specs.Streams.{Writing, Writes, WritesFront, IsPut}
-use Rattle.script_player.proofs.ScriptLemmas.{front-after}
+use Rattle.script_player.specs.laws.Written.{front-after}
 use Rattle.node_player.specs.internal.Puts.{HasPut}
 
 pub put-none : (o : Writing) → HasPut o o []

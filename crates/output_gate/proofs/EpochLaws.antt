@@ -1,46 +1,10 @@
--- Laws of held epochs, for the crates above.
-use Rattle.std.proofs.Common.{
-  ◌≡◌,
-  ℕ,
-  ◌<◌,
-  ◌≤◌,
-  Bool,
-  true,
-  false,
-  if◌then◌else◌,
-  nat_le,
-  List,
-  [],
-  ◌∷◌,
-  ◌++◌,
-  refl,
-  sym,
-  ◌∙◌,
-  ap,
-  All,
-  append_assoc,
-}
+-- Laws of held epochs.
+use Rattle.std.proofs.Common.{◌≡◌, ℕ, ◌<◌, ◌≤◌, Bool, true, false, if◌then◌else◌, nat_le, List, [], ◌∷◌, ◌++◌, refl, ◌∙◌, ap, All}
 use Rattle.std.proofs.lemmas.Bool.{le-leb, lt-leb}
 use Rattle.std.proofs.lemmas.List.Elements.{All-head, All-tail, All-append, All-nil}
 use Rattle.arrayvec.specs.ArrayVec.{ArrayVec}
 use Rattle.frame_ports.specs.Addresses.{IsFrame}
 use Rattle.output_gate.specs.Epochs.{Epoch, IsEpoch, frames_of, frames_to, after_number}
-
--- epochs in two parts
-pub frames_of-append : (es ds : List Epoch) → frames_of (es ++ ds) ≡ frames_of es ++ frames_of ds
-frames_of-append [] ds = refl
-frames_of-append (e ∷ es) ds = ap (λ (l : List (ArrayVec ℕ)). e.frames ++ l) (frames_of-append es ds)
-    ∙ sym (append_assoc e.frames (frames_of es) (frames_of ds))
-
-pub frames_to-append : (n : ℕ) (es ds : List Epoch) → frames_to n (es ++ ds) ≡ frames_to n es ++ frames_to n ds
-frames_to-append n [] ds = refl
-frames_to-append n (e ∷ es) ds = by_number (nat_le e.number n) (frames_to-append n es ds)
-  where
-    by_number : (b : Bool) → frames_to n (es ++ ds) ≡ frames_to n es ++ frames_to n ds →
-        (if b then e.frames ++ frames_to n (es ++ ds) else frames_to n (es ++ ds))
-        ≡ (if b then e.frames ++ frames_to n es else frames_to n es) ++ frames_to n ds
-    by_number true rest = ap (λ (l : List (ArrayVec ℕ)). e.frames ++ l) rest ∙ sym (append_assoc e.frames (frames_to n es) (frames_to n ds))
-    by_number false rest = rest
 
 pub after_number-append : (n : ℕ) (es ds : List Epoch) → after_number n (es ++ ds) ≡ after_number n es ++ after_number n ds
 after_number-append n [] ds = refl

@@ -45,7 +45,8 @@ use Rattle.output_gate.specs.Gate.{GateState, IsGate}
 use Rattle.output_gate.specs.internal.Fields.{total, epochs_of}
 use Rattle.output_gate.specs.declared.marks.Mark.{Mark}
 use Rattle.output_gate.specs.Limits.{max_epochs, max_frames}
-use Rattle.output_gate.proofs.EpochLaws.{frames_of-append, frames_to-none, after_number-none}
+use Rattle.output_gate.specs.laws.Epochs.{frames_of-append}
+use Rattle.output_gate.proofs.EpochLaws.{frames_to-none, after_number-none}
 
 -- of a list by pairs: its first element against the others, its rest, and what is left of it
 module _ {X : Type 0} (R : X → X → Type 0) where

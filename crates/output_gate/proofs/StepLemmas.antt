@@ -5,7 +5,7 @@ use Rattle.frame_ports.specs.{Addresses.{paired_with, targets_of}, Numbers.{land
 use Rattle.frame_ports.specs.declared.landing.Landing.{Landing}
 use Rattle.frame_ports.specs.declared.landing.Landing.TheVariants.{In, Dropped, Old}
 use Rattle.output_gate.specs.Landings.{clients_for, landed_for, puts, drops, landed_of, dropped_of, landed_count, dropped_count}
-use Rattle.output_gate.proofs.PortsAfterLaws.{boxes_count-for}
+use Rattle.output_gate.specs.laws.Ports.{boxes_count-for}
 
 -- a landing counts once at most
 one_most : (l : Landing) → puts l + drops l ≤ 1

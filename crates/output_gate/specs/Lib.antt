@@ -1,4 +1,5 @@
 pub mod internal
+pub mod laws
 pub use Rattle.frame_ports.specs.Addresses
 pub use Rattle.frame_ports.specs.Lands
 pub use Rattle.frame_ports.specs.Numbers

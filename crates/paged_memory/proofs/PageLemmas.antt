@@ -1,7 +1,8 @@
 -- A page's bytes, and the flags after a write.
 use Rattle.std.proofs.{lemmas.{List.{nil_from_length, take-append-drop, length-take-le, length-drop}, Bool.cases_eq}, Common.{◌≡◌, ℕ, ◌+◌}}
 use Rattle.std.proofs.Common.{◌-◌, ◌*◌, ◌/◌, ◌≤◌, ◌++◌, inl, inr, Bool, List, length, take, drop, ap, ◌∙◌, arith}
-use Rattle.paged_memory.{specs.Pages.{page_of, marked}, proofs.FlagLemmas.{length-flagged, marked_some, marked_none}}
+use Rattle.paged_memory.specs.Pages.{page_of, marked}
+use Rattle.paged_memory.specs.laws.Flags.{length-flagged, marked_some, marked_none}
 
 -- no bytes change nothing
 pub nothing_written : (xs new : List ℕ) (at n : ℕ) → length new ≡ n → n ≡ 0 → take at xs ++ (new ++ drop (at + n) xs) ≡ xs

@@ -8,7 +8,9 @@ use Rattle.byteorder.specs.Endian.{little_bytes}
 use Rattle.paged_memory.specs.{Listed.IsLeast, Pages.AreUnwritten}
 use Rattle.paged_memory.specs.{Bytes.with_number, Pages.{Paged, IsPaged, page_of, is_written, written_pages, flagged, marked, with_flags}}
 use Rattle.paged_memory.specs.{Pages.{with_written, settled_at}, Stored.{settled_bytes, seen, IsStored}}
-use Rattle.paged_memory.proofs.{BytesLemmas.length_overwritten, FlagLemmas.{one_more, no_pages, few_marked, marked_none}}
+use Rattle.paged_memory.specs.laws.Bytes.{length_overwritten}
+use Rattle.paged_memory.proofs.FlagLemmas.{one_more, few_marked}
+use Rattle.paged_memory.specs.laws.Flags.{no_pages, marked_none}
 use Rattle.paged_memory.proofs.{PageLemmas.length_marked, StoredLemmas.{settled_by_keep, settled_by_write, settled_afresh, stored_by_write}}
 use Rattle.paged_memory.proofs.StoredLemmas.{one_page_more, paged}
 

@@ -9,7 +9,9 @@ use Rattle.std.proofs.Common.{◌%◌, ◌^◌, ◌<◌, ◌≤◌, ◌++◌, in
 use Rattle.std.proofs.{Common.{take, drop, get_or, All, Contains, refl, sym, ap, ◌∙◌, subst, zero-add, add-zero, arith}, Math.ListN.set}
 use Rattle.paged_memory.specs.Limits.{most_pages}
 use Rattle.paged_memory.specs.{Pages.{IsPaged, page_of, is_written, written_pages, flagged, marked}, Stored.{original_byte, settled_bytes}}
-use Rattle.paged_memory.{specs.Stored.{seen, IsStored}, proofs.{BytesLemmas.length_overwritten, FlagLemmas.{no_new_flag, marked_some}}}
+use Rattle.paged_memory.specs.Stored.{seen, IsStored}
+use Rattle.paged_memory.specs.laws.Bytes.{length_overwritten}
+use Rattle.paged_memory.specs.laws.Flags.{no_new_flag, marked_some}
 use Rattle.paged_memory.proofs.PageLemmas.{nothing_written, length-page}
 
 -- ---- bytes that were put somewhere

@@ -1,3 +1,4 @@
+pub mod laws
 pub mod Bytes
 pub mod Limits
 pub mod Listed

@@ -5,8 +5,8 @@ use Rattle.pair_history.specs.HistoryState.{HistoryState}
 use Rattle.growing_history.specs.Steps.{What, Added, Sealed, RanAlone, Committed, PrimaryFailed, BackupFailed, WentLive, Protected, Step}
 use Rattle.growing_history.specs.Steps.{Begins, steps_by}
 use Rattle.growing_history.specs.LogState.{LogState, Epoch, start_of, IsAlone, after, Needs, state_after, LegalFrom, Legal, state_at}
-use Rattle.growing_history.proofs.LogLaws.{numbers, numbers-rise}
-use Rattle.growing_history.proofs.Between.{none-first, none-between, same, later}
+use Rattle.growing_history.specs.laws.Logs.{numbers, numbers-rise}
+use Rattle.growing_history.specs.laws.Between.{none-first, none-between, same, later}
 use Rattle.pair_book.specs.Standing.{ack_before, last_ack}
 
 -- what one step of another leaves the backup, if no node is alone after it

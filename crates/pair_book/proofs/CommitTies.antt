@@ -15,7 +15,7 @@ use Rattle.pair_record.specs.internal.Accords.{Accords}
 use Rattle.pair_record.proofs.AccordLaws.{commit_with, some_moves, some_held}
 use Rattle.growing_history.specs.Steps.{Step, step}
 use Rattle.growing_history.specs.LogState.{LogState, Epoch, state_at, entries_of, mode_filled, IsAlone, IsFirstSealed}
-use Rattle.growing_history.proofs.SealedNumbers.{first-sealed}
+use Rattle.growing_history.specs.laws.Sealed.{first-sealed}
 use Rattle.pair_book.specs.Commits.{commit_of}
 use Rattle.pair_book.specs.internal.Tie.{IsTied}
 use Rattle.pair_book.proofs.Ties.{step-tied, tied-still}

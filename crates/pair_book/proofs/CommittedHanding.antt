@@ -1,6 +1,6 @@
 -- What handing out keeps of what the backup has committed.
 use Rattle.std.proofs.Common.{◌≡◌, ℕ, ◌≤◌, List, [], ◌∷◌, length, sym, ap, ◌∙◌, subst, arith}
-use Rattle.output_gate.proofs.KeptLaws.{risen-same}
+use Rattle.output_gate.specs.laws.Ports.{risen-same}
 use Rattle.pair_history.specs.Entries.{Entry}
 use Rattle.pair_history.specs.HistoryState.{HistoryState}
 use Rattle.pair_record.specs.FailureActs.{first_uncommitted}

@@ -12,8 +12,8 @@ use Rattle.pair_record.proofs.OwedLaws.{EndOwed}
 use Rattle.pair_record.proofs.OwedLaws as laws
 use Rattle.growing_history.specs.Steps.{What, Committed, Protected, Step, Begins, steps_by}
 use Rattle.growing_history.specs.LogState.{LogState, start_of, after, Needs, state_after, LegalFrom, Legal, state_at}
-use Rattle.growing_history.proofs.Between.{none-first, none-between, same, later}
-use Rattle.growing_history.proofs.LogLaws.{numbers, numbers-rise}
+use Rattle.growing_history.specs.laws.Between.{none-first, none-between, same, later}
+use Rattle.growing_history.specs.laws.Logs.{numbers, numbers-rise}
 use Rattle.pair_book.specs.Standing.{commits_after, commits_from, commits_of, last_four, KeepsLast}
 use Rattle.pair_book.specs.internal.Committed.{AreOwed}
 

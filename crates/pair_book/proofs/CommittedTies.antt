@@ -6,11 +6,11 @@ use Rattle.std.specs.Prelude.{slice_get}
 use Rattle.failover.specs.declared.change.Change.TheVariants as changes
 use Rattle.epoch_snapshot.specs.Checkpoints.{Change}
 use Rattle.frame_ports.specs.{Lands.list_of, Ports.{PortsState, after_delivery}}
-use Rattle.output_gate.proofs.KeptLaws.{risen-same}
+use Rattle.output_gate.specs.laws.Ports.{risen-same}
 use Rattle.pair_history.specs.Entries.{Frame, Entry, Delivered, Refused, Took, DropIn, DropOut}
 use Rattle.pair_history.specs.HistoryState.{HistoryState, sent_along}
-use Rattle.pair_history.specs.internal.Moves.{entries_of}
-use Rattle.pair_history.proofs.Moves.{sent_along-moves}
+use Rattle.pair_history.specs.Moves.{entries_of}
+use Rattle.pair_history.specs.laws.Moves.{sent_along-moves}
 use Rattle.pair_record.specs.EpochActs.{fail_within_done}
 use Rattle.pair_record.specs.FailureActs.{first_uncommitted}
 use Rattle.pair_record.specs.Journal.{first_of, with_history}
@@ -26,7 +26,8 @@ use Rattle.growing_history.specs.Steps.{What, Added, PrimaryFailed, BackupFailed
 use Rattle.growing_history.specs.LogState as log
 use Rattle.growing_history.specs.LogState.{LogState, state_at}
 use Rattle.growing_history.specs.SealedTexts.{IsMade}
-use Rattle.growing_history.proofs.{LogLaws.{state-snoc, marked}, TextLaws.{made-nil, made-goes-on}}
+use Rattle.growing_history.specs.laws.Logs.{state-snoc, marked}
+use Rattle.growing_history.specs.laws.Texts.{made-nil, made-goes-on}
 use Rattle.pair_book.specs.{Commits.commit_of, Made.Reads}
 use Rattle.pair_book.specs.Standing.{first_sent, commits_after, commits_of}
 use Rattle.pair_book.specs.internal.{Tie.IsTied, Committed.{AreOwed, KeepsCommitted}}

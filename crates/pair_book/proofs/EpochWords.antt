@@ -6,14 +6,16 @@ use Rattle.pair_history.specs.Entries.{Entry, Arrive, Ran}
 use Rattle.pair_history.specs.HistoryState.{HistoryState, Waiting, at}
 use Rattle.pair_history.specs.Failures.{arrived_numbers, fail_backup_entries}
 use Rattle.pair_history.specs.Order.{AreGuests}
-use Rattle.pair_history.specs.internal.Moves.{AreRising}
-use Rattle.pair_history.specs.internal.Waits.{AllWait, without_numbers, waits_along}
-use Rattle.pair_history.proofs.WaitsLaws.{at-waits, at-number, arrived_numbers-append, AllWait-second, rising-without_numbers}
-use Rattle.pair_history.proofs.WaitsLaws.{without_numbers-append, waits-guests, number-guests, AreGuests-arrivals, arrived_numbers-arrivals}
-use Rattle.pair_history.proofs.WaitsLaws.{waits-fail_backup, number-fail_backup}
+use Rattle.pair_history.specs.Reached.{AreRising}
+use Rattle.pair_history.specs.Waits.{AllWait, without_numbers, waits_along}
+use Rattle.pair_history.specs.laws.Waits.{at-waits, at-number, arrived_numbers-append, AllWait-second, rising-without_numbers}
+use Rattle.pair_history.specs.laws.Waits.{without_numbers-append, waits-guests, number-guests, AreGuests-arrivals}
+use Rattle.pair_history.specs.laws.Waits.{arrived_numbers-arrivals}
+use Rattle.pair_history.specs.laws.Waits.{waits-fail_backup, number-fail_backup}
 use Rattle.pair_record.specs.EpochActs.{up_to, behind, guest_epoch}
 use Rattle.growing_history.specs.LogState.{LogState, IsEpoch, entries_of, under_way}
-use Rattle.growing_history.proofs.{Epochs.guests-append, WaitsAlong.{StillWait, taken}}
+use Rattle.pair_history.specs.laws.Histories.{guests-append}
+use Rattle.growing_history.specs.Waiting.{StillWait, taken}
 use Rattle.pair_book.specs.Settled.{epoch_of}
 
 up_to-arrivals : (n : ℕ) (ns : List ℕ) → up_to n (map Arrive ns) ≡ map Arrive (take n ns)

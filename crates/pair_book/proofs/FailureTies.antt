@@ -11,8 +11,11 @@ use Rattle.pair_history.specs.Entries.{Frame, Entry, Land, DropOut}
 use Rattle.pair_history.specs.HistoryState.{HistoryState, at}
 use Rattle.pair_history.specs.HistoryState as history
 use Rattle.pair_history.specs.{Failures.all_land, Landings.{landings, DropsAtFull}}
-use Rattle.pair_history.specs.internal.Moves.{Move}
-use Rattle.pair_history.proofs.{States.at-append, LandingLaws.length-lands, Moves.moved, WaitsLaws.AreQuiet-landings}
+use Rattle.pair_history.specs.Moves.{Move}
+use Rattle.pair_history.specs.laws.Histories.{at-append}
+use Rattle.frame_ports.specs.laws.Lands.{length-lands}
+use Rattle.pair_history.specs.laws.Moves.{moved}
+use Rattle.pair_history.specs.laws.Waits.{AreQuiet-landings}
 use Rattle.pair_record.specs.Journal.{joined}
 use Rattle.pair_record.specs.EpochActs.{fail_within_done}
 use Rattle.pair_record.specs.Modes.{change_refusal, is_alone}
@@ -23,7 +26,8 @@ use Rattle.pair_record.proofs.AccordLaws.{sealed_now, sealed_state, owed_with}
 use Rattle.pair_record.proofs.{ClientAccords.{ack_accords, ack_lands}, HandedAccords.fail_within_accords, ProtectAccords.begin_accords}
 use Rattle.growing_history.specs.Steps.{Step, step, Added, PrimaryFailed, BackupFailed, Protected}
 use Rattle.growing_history.specs.LogState.{LogState, state_at, under_way, entries_of, added, IsOwn, AreOwn, AreKnown, HasBackup, IsAlone, IsNew}
-use Rattle.growing_history.proofs.{LogLaws.history-stands, WaitsAlong.same-wait}
+use Rattle.growing_history.specs.laws.Logs.{history-stands}
+use Rattle.growing_history.specs.laws.Waiting.{same-wait}
 use Rattle.pair_book.specs.internal.Tie.{IsTied}
 use Rattle.pair_book.proofs.{Ties.{step-tied, sealed-joined, gained-there, tied-still}, Waits.still-waiting}
 

@@ -5,7 +5,8 @@ use Rattle.growing_history.specs.Steps.{What, Sealed, WentLive, Protected, step}
 use Rattle.frame_ports.specs.Limits.{max_clients}
 use Rattle.growing_history.specs.LogState.{LogState, state_at, after, start_of, first_runner, first_backup, client_seat, IsNew}
 use Rattle.growing_history.specs.Views.{Keeper}
-use Rattle.growing_history.proofs.{LogLaws.{state-nil, state-snoc}, SeatNumbers.seats-last}
+use Rattle.growing_history.specs.laws.Logs.{state-nil, state-snoc}
+use Rattle.growing_history.specs.laws.Seats.{seats-last}
 use Rattle.pair_book.specs.internal.Live.{AreLive, LeavesLive}
 
 -- the next number is a new one

@@ -7,7 +7,7 @@ use Rattle.failover.specs.declared.change.Change.TheVariants as changes
 use Rattle.failover.specs.declared.mode.Mode.{Mode}
 use Rattle.failover.specs.declared.mode.Mode.TheVariants.{Paired, Filling, Alone, Stopped}
 use Rattle.frame_ports.specs.{Limits.number_limit, Ports.PortsState}
-use Rattle.output_gate.proofs.PortsAfterLaws.{rest_same-after, risen-after}
+use Rattle.output_gate.specs.laws.Ports.{rest_same-after, risen-after}
 use Rattle.pair_history.specs.Entries.{Frame, Entry}
 use Rattle.pair_history.specs.Failures.{go_live_entries}
 use Rattle.pair_history.specs.HistoryState.{HistoryState}

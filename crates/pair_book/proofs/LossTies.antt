@@ -5,9 +5,11 @@ use Rattle.std.specs.Prelude.{slice_get, nat_lt}
 use Rattle.frame_ports.specs.{Lands.{list_of}, Ports.{PortsState}, Limits.{box_frames}}
 use Rattle.pair_history.specs.Entries.{Frame, DropIn, DropOut}
 use Rattle.pair_history.specs.HistoryState.{HistoryState, Waiting, frame_numbered, without_number}
-use Rattle.pair_history.specs.{Order.NoneTakes, internal.Moves.{Move, Steps, Arrives, entries_of, AllCan, AreRising}}
-use Rattle.pair_history.proofs.Waiting.{StandsAt, Leaves, leaves-at, gone, found-without, AreRising-without}
-use Rattle.pair_history.proofs.Losses.{AreRising-left, LeavesBefore, leaves-before}
+use Rattle.pair_history.specs.Order.{NoneTakes}
+use Rattle.pair_history.specs.Moves.{Move, Steps, Arrives, entries_of, AllCan}
+use Rattle.pair_history.specs.Reached.{AreRising}
+use Rattle.pair_history.specs.laws.Waiting.{StandsAt, Leaves, leaves-at, gone, found-without, AreRising-without}
+use Rattle.pair_history.specs.laws.Losses.{AreRising-left, LeavesBefore, leaves-before}
 use Rattle.pair_record.specs.Journal.{kept_entries}
 use Rattle.pair_record.specs.Protocol.{Record, shown_at, loss_done}
 use Rattle.pair_record.specs.Record.{ports_after_lose_in, ports_after_lose_out, ports_if_lost}

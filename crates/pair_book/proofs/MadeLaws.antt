@@ -7,8 +7,10 @@ use Rattle.pair_history.specs.Failures.{all_land}
 use Rattle.growing_history.specs.Steps.{Sealed, RanAlone, Step}
 use Rattle.growing_history.specs.LogState.{LogState, Epoch, Legal, state_at, sealed_state, entries_of, and_all_land, after}
 use Rattle.growing_history.specs.SealedTexts.{IsMade, epoch_sent}
-use Rattle.growing_history.proofs.LinesFirst.{landings-leave}
-use Rattle.growing_history.proofs.{LogLaws.at-append, SealedNumbers.are-sealed, TextLaws.makes-same}
+use Rattle.pair_history.specs.laws.Landings.{landings-unmoved}
+use Rattle.pair_history.specs.laws.Histories.{at-append}
+use Rattle.growing_history.specs.laws.Sealed.{are-sealed}
+use Rattle.growing_history.specs.laws.Texts.{makes-same}
 use Rattle.pair_book.specs.declared.prepared.Prepared.TheVariants as prepared
 use Rattle.pair_book.specs.Made.{Reads, carried, MakesEpoch}
 use Rattle.pair_book.specs.Packets.{PacketState}
@@ -24,7 +26,7 @@ landed-alike : (h : HistoryState) (epoch : List Entry) → Alike (at h (and_all_
 landed-alike h epoch =
     let then = at h epoch in
     let apart = at-append h epoch (all_land then) in
-    let leave = landings-leave then.boxes then.out then in (
+    let leave = landings-unmoved then.boxes then.out then in (
       ap (λ (x : HistoryState). x.guest) apart ∙ leave.0,
       ap (λ (x : HistoryState). x.waiting) apart ∙ leave.1,
     )

@@ -10,19 +10,21 @@ use Rattle.pair_history.specs.Entries.{Frame, Entry, Arrive}
 use Rattle.pair_history.specs.HistoryState.{HistoryState, Waiting, inbox_of, frame_numbered, without_number, at, sent_along}
 use Rattle.pair_history.specs.Failures.{arrived_numbers}
 use Rattle.pair_history.specs.Order.{AreGuests}
-use Rattle.pair_history.specs.internal.Moves.{AreRising}
-use Rattle.pair_history.specs.internal.Waits.{without_numbers, AllWait}
-use Rattle.pair_history.proofs.LandingLaws.{length-lands}
-use Rattle.pair_history.proofs.Waiting.{AreRising-without, found-without, gone, leaves-at}
-use Rattle.pair_history.proofs.WaitsLaws.{at-waits, waits-guests, rising-without_numbers, AllWait-second, without_numbers-append}
-use Rattle.pair_history.proofs.WaitsLaws.{arrived_numbers-append, arrived_numbers-arrivals}
+use Rattle.pair_history.specs.Reached.{AreRising}
+use Rattle.pair_history.specs.Waits.{without_numbers, AllWait}
+use Rattle.frame_ports.specs.laws.Lands.{length-lands}
+use Rattle.pair_history.specs.laws.Waiting.{AreRising-without, found-without, gone, leaves-at}
+use Rattle.pair_history.specs.laws.Waits.{at-waits, waits-guests, rising-without_numbers, AllWait-second, without_numbers-append}
+use Rattle.pair_history.specs.laws.Waits.{arrived_numbers-append, arrived_numbers-arrivals}
 use Rattle.pair_record.specs.EpochActs.{guest_epoch, behind}
 use Rattle.pair_record.specs.Protocol.{Record}
 use Rattle.pair_record.specs.internal.Accords.{AreInboxes}
 use Rattle.growing_history.specs.Steps.{Step, step, Begins}
 use Rattle.growing_history.specs.LogState.{LogState, state_at, sealed_state, entries_of, after, IsEpoch, IsAlone}
 use Rattle.growing_history.specs.Views.{Member}
-use Rattle.growing_history.proofs.{LogLaws.state-snoc, SealedNumbers.are-sealed, WaitsAlong.taken}
+use Rattle.growing_history.specs.laws.Logs.{state-snoc}
+use Rattle.growing_history.specs.laws.Sealed.{are-sealed}
+use Rattle.growing_history.specs.Waiting.{taken}
 use Rattle.pair_book.specs.Books.{BookState}
 use Rattle.pair_book.specs.declared.prepared.Prepared.{Prepared}
 use Rattle.pair_book.specs.declared.prepared.Prepared.TheVariants as prepared

@@ -14,7 +14,10 @@ use Rattle.growing_history.specs.Steps.{Step, step, Begins, WentLive}
 use Rattle.growing_history.specs.LogState.{LogState, Legal, state_at, sealed_state, under_way, after, IsEpoch, IsAlone, is_filling}
 use Rattle.growing_history.specs.SealedTexts.{Makes}
 use Rattle.growing_history.specs.Views.{Member}
-use Rattle.growing_history.proofs.{LinesFirst.landings-leave, LogLaws.{live-rise, marks-rise, at-append, state-snoc}, TextLaws.makes-same}
+use Rattle.pair_history.specs.laws.Landings.{landings-unmoved}
+use Rattle.growing_history.specs.laws.Logs.{live-rise, marks-rise, state-snoc}
+use Rattle.pair_history.specs.laws.Histories.{at-append}
+use Rattle.growing_history.specs.laws.Texts.{makes-same}
 use Rattle.pair_book.specs.declared.failures.Ack.{Ack}
 use Rattle.pair_book.specs.declared.prepared.Prepared.TheVariants as prepared
 use Rattle.pair_book.specs.Made.{Reads, carried, IsPrepared}
@@ -118,7 +121,7 @@ live-guest : (h : HistoryState) (way : List Entry) → (at h (go_live_entries h 
 live-guest h way =
     let drops = map DropIn (rising (arrived_numbers way)) in
     ap (λ (g : HistoryState). g.guest) (at-append h drops (landings h.boxes h.out))
-    ∙ (landings-leave h.boxes h.out (at h drops)).0
+    ∙ (landings-unmoved h.boxes h.out (at h drops)).0
     ∙ drops-guest h (rising (arrived_numbers way))
 
 pub runs-live : (start : HistoryState) (steps : List Step) (number : ℕ) → number ≡ (state_at start steps).backup

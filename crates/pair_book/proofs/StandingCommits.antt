@@ -29,7 +29,9 @@ use Rattle.growing_history.specs.Steps.{Step, step, Begins, steps_by}
 use Rattle.growing_history.specs.LogState.{LogState, Epoch, state_at, entries_of, after, mark_of, is_filling, IsAlone, IsFirstSealed}
 use Rattle.growing_history.specs.SealedTexts.{Makes, MakeInTurn}
 use Rattle.growing_history.specs.Views.{Member}
-use Rattle.growing_history.proofs.{LogLaws.state-snoc, SealedNumbers.first-sealed, Prefixes.steps_by-own}
+use Rattle.growing_history.specs.laws.Logs.{state-snoc}
+use Rattle.growing_history.specs.laws.Sealed.{first-sealed}
+use Rattle.growing_history.specs.laws.Prefixes.{steps_by-own}
 use Rattle.pair_book.specs.declared.failures.Ack.{Ack}
 use Rattle.pair_book.specs.Commits.{commit_of, kept_with, sent_with, first_with, WasRead, StandsBy, StandsAgain}
 use Rattle.pair_book.specs.Made.{IsShape, Reads}

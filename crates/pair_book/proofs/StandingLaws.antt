@@ -17,7 +17,8 @@ use Rattle.pair_record.proofs.KeptLists.{all_frames-append}
 use Rattle.growing_history.specs.Steps.{Step, Begins, steps_by}
 use Rattle.growing_history.specs.LogState.{LogState, Epoch, Legal, state_at, IsAlone, is_filling}
 use Rattle.growing_history.specs.Views.{Member}
-use Rattle.growing_history.proofs.{LogLaws.{live-rise, marks-rise}, MissedByBackup.backup-misses-nothing}
+use Rattle.growing_history.specs.laws.Logs.{live-rise, marks-rise}
+use Rattle.growing_history.proofs.MissedByBackup.{backup-misses-nothing}
 use Rattle.pair_book.specs.declared.failures.Ack.{Ack}
 use Rattle.pair_book.specs.Standing.{commits_of, last_four, KeepsLast, KeepsFrames, ack_before, Stands}
 use Rattle.pair_book.specs.internal.{Committed.KeepsCommitted, Tie.IsTied}

@@ -9,7 +9,7 @@ use Rattle.pair_record.specs.Record.{start_record}
 use Rattle.pair_record.specs.internal.Accords.{Accords}
 use Rattle.pair_record.proofs.AccordLaws.{start_accords}
 use Rattle.growing_history.specs.LogState.{LogState, Legal, start_of}
-use Rattle.growing_history.proofs.LogLaws.{state-nil, history-nil}
+use Rattle.growing_history.specs.laws.Logs.{state-nil, history-nil}
 use Rattle.pair_book.specs.Opening.{IsBoot}
 use Rattle.pair_book.specs.internal.{Tie.{IsTied, sealed_entries}, Waits.AreWaiting}
 

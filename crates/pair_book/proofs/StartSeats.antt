@@ -6,7 +6,7 @@ use Rattle.pair_history.specs.Entries.{Frame}
 use Rattle.pair_history.specs.HistoryState.{HistoryState, sent_along, frame_numbered}
 use Rattle.growing_history.specs.Steps.{Protected, Step, step}
 use Rattle.growing_history.specs.LogState.{LogState, start_of, first_runner, first_backup, sealed_state, state_at, after, is_filling}
-use Rattle.growing_history.proofs.LogLaws.{state-nil, state-snoc}
+use Rattle.growing_history.specs.laws.Logs.{state-nil, state-snoc}
 use Rattle.pair_book.specs.Settled.{IsSettled, epoch_of, just_settled, Follows, Runs}
 use Rattle.pair_book.specs.Standing.{KeepsLast, KeepsFrames, ack_before, last_ack, first_ack, Stands}
 use Rattle.pair_book.proofs.CommittedLaws.{commits-nil, commits-snoc}

@@ -6,13 +6,15 @@ use Rattle.frame_ports.specs.{Addresses.targets_of, Limits.number_limit, Ports.P
 use Rattle.pair_history.specs.Entries.{Frame, Entry, Arrive}
 use Rattle.pair_history.specs.Failures.{arrived_numbers}
 use Rattle.pair_history.specs.Landings.{landings}
-use Rattle.pair_history.proofs.{LandingLaws.{length-lands}, WaitsLaws.arrived_numbers-arrivals}
+use Rattle.frame_ports.specs.laws.Lands.{length-lands}
+use Rattle.pair_history.specs.laws.Waits.{arrived_numbers-arrivals}
 use Rattle.pair_record.specs.EpochActs.{guest_epoch, behind, seal_epoch_done, enter_epoch_done, enter_epoch_refusals}
 use Rattle.pair_record.specs.Journal.{Journal, all_entries, kept_entries, entered}
 use Rattle.pair_record.specs.Protocol.{Record, first_refusal}
 use Rattle.pair_record.specs.Record.{ports_landed}
 use Rattle.pair_record.proofs.EpochLaws.{kept-sealed, all-entered}
-use Rattle.pair_record.proofs.{JournalLaws.{length-all}, LengthLaws.{length-landings}}
+use Rattle.pair_record.specs.Joined.{length-all}
+use Rattle.pair_history.specs.laws.Landings.{length-landings}
 use Rattle.pair_record.proofs.RecordLaws.{passed, has_room_for}
 use Rattle.pair_book.specs.declared.runner.Kind.{Kind}
 use Rattle.pair_book.specs.declared.runner.Kind.TheVariants.{Nothing, Delta, Full}

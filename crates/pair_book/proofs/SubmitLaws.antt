@@ -10,8 +10,8 @@ use Rattle.pair_history.specs.Entries.{Frame, Entry, Arrive, Ran}
 use Rattle.pair_history.specs.HistoryState.{HistoryState, at, sent_along}
 use Rattle.pair_history.specs.Failures.{arrived_numbers}
 use Rattle.pair_history.specs.Landings.{landings}
-use Rattle.pair_history.proofs.LandingLaws.{length-lands}
-use Rattle.pair_history.proofs.WaitsLaws.{arrived_numbers-arrivals}
+use Rattle.frame_ports.specs.laws.Lands.{length-lands}
+use Rattle.pair_history.specs.laws.Waits.{arrived_numbers-arrivals}
 use Rattle.pair_record.specs.EpochActs.{guest_epoch, behind}
 use Rattle.pair_record.specs.Journal.{joined}
 use Rattle.pair_record.specs.Modes.{is_alone, is_stopped, is_filling}
@@ -23,7 +23,8 @@ use Rattle.growing_history.specs.Steps.{Step, step, Begins, Sealed, RanAlone}
 use Rattle.growing_history.specs.LogState.{LogState, state_at, sealed_state, Legal, IsEpoch, HasBackup, IsAlone, MaySeal}
 use Rattle.growing_history.specs.Views.{Member}
 use Rattle.growing_history.specs.SealedTexts.{IsMade}
-use Rattle.growing_history.proofs.{LogLaws.{live-rise, marks-rise}, TextLaws.makes-same}
+use Rattle.growing_history.specs.laws.Logs.{live-rise, marks-rise}
+use Rattle.growing_history.specs.laws.Texts.{makes-same}
 use Rattle.pair_book.specs.declared.prepared.Prepared.{Prepared}
 use Rattle.pair_book.specs.declared.prepared.Prepared.TheVariants as prepared
 use Rattle.pair_book.specs.declared.runner.Kind.{Kind}

@@ -9,8 +9,10 @@ use Rattle.pair_history.specs.HistoryState.{HistoryState, at, sent_along}
 use Rattle.pair_history.specs.Failures.{arrived_numbers, all_land}
 use Rattle.pair_history.specs.Landings.{landings}
 use Rattle.pair_history.specs.Order.{AreGuests}
-use Rattle.pair_history.specs.internal.Moves.{Move, Steps}
-use Rattle.pair_history.proofs.{LandingLaws.length-lands, Moves.moved, States.at-append}
+use Rattle.pair_history.specs.Moves.{Move, Steps}
+use Rattle.frame_ports.specs.laws.Lands.{length-lands}
+use Rattle.pair_history.specs.laws.Moves.{moved}
+use Rattle.pair_history.specs.laws.Histories.{at-append}
 use Rattle.pair_record.specs.EpochActs.{guest_epoch, behind, epoch_sent, seal_epoch_done, enter_epoch_done}
 use Rattle.pair_record.specs.Journal.{joined}
 use Rattle.pair_record.specs.Protocol.{Record, shown_at, full_done}
@@ -22,8 +24,11 @@ use Rattle.pair_record.proofs.HandedAccords.{epoch_are, held_are, can, same, alo
 use Rattle.growing_history.specs.Steps.{Step, step, Sealed, RanAlone}
 use Rattle.growing_history.specs.LogState.{LogState, Epoch, state_at, sealed_state, entries_of, and_all_land, HasBackup, IsAlone}
 use Rattle.growing_history.specs.LogState.{MaySeal}
-use Rattle.growing_history.proofs.{Epochs.guests-append, LogLaws.history-stands, SeatNumbers.{seats-last, boxes-stay}}
-use Rattle.growing_history.proofs.WaitsAlong.{StillWait, sealed-wait}
+use Rattle.pair_history.specs.laws.Histories.{guests-append, boxes-stay}
+use Rattle.growing_history.specs.laws.Logs.{history-stands}
+use Rattle.growing_history.specs.laws.Seats.{seats-last}
+use Rattle.growing_history.specs.Waiting.{StillWait}
+use Rattle.growing_history.specs.laws.Waiting.{sealed-wait}
 use Rattle.pair_book.specs.Handing.{handing, handed_next}
 use Rattle.pair_book.specs.Settled.{epoch_of}
 use Rattle.pair_book.specs.internal.{Tie.IsTied, Waits.AreWaiting}

@@ -13,7 +13,7 @@ use Rattle.pair_record.specs.Window.{with_cut, with_commit, with_acknowledged, f
 use Rattle.pair_record.proofs.WindowLaws.{test_below, is_from, is_below}
 use Rattle.growing_history.specs.Steps.{What, Added, Sealed, Committed, Step, step}
 use Rattle.growing_history.specs.LogState.{LogState, Epoch, state_at, after}
-use Rattle.growing_history.proofs.LogLaws.{state-snoc}
+use Rattle.growing_history.specs.laws.Logs.{state-snoc}
 use Rattle.pair_book.specs.Packets.{PacketState}
 use Rattle.pair_book.specs.Texts.{WasSealed, ArePending, above}
 use Rattle.pair_book.specs.internal.{Texts.{HasTexts, texts_of, sealed_texts}, Tie.IsTied}

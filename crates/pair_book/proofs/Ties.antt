@@ -5,7 +5,8 @@ use Rattle.pair_history.specs.Entries.{Entry, Arrive}
 use Rattle.pair_history.specs.HistoryState.{HistoryState, at}
 use Rattle.pair_history.specs.HistoryState as history
 use Rattle.pair_history.specs.Order.{AreGuests}
-use Rattle.pair_history.proofs.{Moves.Legal-moves, States.Legal-append}
+use Rattle.pair_history.specs.laws.Moves.{Legal-moves}
+use Rattle.pair_history.specs.laws.Histories.{Legal-append}
 use Rattle.pair_record.specs.Journal.{joined, kept_entries, with_history}
 use Rattle.pair_record.specs.Protocol.{Record}
 use Rattle.pair_record.specs.internal.Accords.{Accords, kept_moves}
@@ -13,8 +14,10 @@ use Rattle.pair_record.proofs.AccordLaws.{kept_is}
 use Rattle.growing_history.specs.Steps.{What, Step, step, Added}
 use Rattle.growing_history.specs.LogState.{LogState, Epoch, Legal, Needs, MayStep, DropsKnown, AreOwn, AreKnown}
 use Rattle.growing_history.specs.LogState.{state_at, history_of, entries_of, under_way, added, after}
-use Rattle.growing_history.proofs.LogLaws.{goes-on, state-snoc, history-snoc, history-stands, legal-second, marked}
-use Rattle.growing_history.proofs.WaitsAlong.{IsStill, legal-guests, still-wait}
+use Rattle.growing_history.specs.laws.Logs.{goes-on, state-snoc, history-snoc, history-stands, marked}
+use Rattle.pair_history.specs.laws.Histories.{legal-second}
+use Rattle.growing_history.specs.Waiting.{IsStill}
+use Rattle.growing_history.specs.laws.Waiting.{legal-guests, still-wait}
 use Rattle.pair_book.specs.internal.{Tie.{IsTied, sealed_entries}, Waits.AreWaiting}
 use Rattle.pair_book.proofs.Waits.{still-waiting}
 

@@ -8,17 +8,19 @@ use Rattle.pair_history.specs.Entries.{Frame, Arrive, Delivered, DropIn}
 use Rattle.pair_history.specs.Failures.{arrived_numbers}
 use Rattle.pair_history.specs.HistoryState.{HistoryState, Waiting, inbox_of, frame_numbered, without_number}
 use Rattle.pair_history.specs.Order.{AreGuests}
-use Rattle.pair_history.specs.internal.Moves.{AreRising}
-use Rattle.pair_history.specs.internal.Waits.{without_numbers, AllWait}
-use Rattle.pair_history.proofs.Waiting.{inbox_of-append, AreRising-push, AreRising-without, StandsAt, Leaves, leaves-at}
-use Rattle.pair_history.proofs.WaitsLaws.{at-waits, waits-guests, AllWait-more, LeavesFirst, leaves-first, rising-without_numbers}
-use Rattle.pair_history.proofs.WaitsLaws.{AllWait-append, without_numbers-append, arrived_numbers-append, arrived_numbers-arrivals}
+use Rattle.pair_history.specs.Reached.{AreRising}
+use Rattle.pair_history.specs.Waits.{without_numbers, AllWait}
+use Rattle.pair_history.specs.laws.Waiting.{inbox_of-append, AreRising-push, AreRising-without, StandsAt, Leaves, leaves-at}
+use Rattle.pair_history.specs.laws.Waits.{at-waits, waits-guests, AllWait-more, LeavesFirst, leaves-first, rising-without_numbers}
+use Rattle.pair_history.specs.laws.Waits.{AllWait-append, without_numbers-append, arrived_numbers-append, arrived_numbers-arrivals}
 use Rattle.pair_record.specs.Record.{ports_after_lose_in}
 use Rattle.pair_record.specs.internal.Accords.{AreInboxes}
 use Rattle.pair_record.proofs.AccordLaws.{AreInboxes-with, apart}
 use Rattle.growing_history.specs.Steps.{Added}
 use Rattle.growing_history.specs.LogState.{LogState, entries_of, under_way, after, first_frames, hands_out}
-use Rattle.growing_history.proofs.{WaitsAlong.{StillWait, taken, way-guests}, Arrivals.{firsts-wait, firsts-leave}}
+use Rattle.growing_history.specs.Waiting.{StillWait, taken}
+use Rattle.growing_history.specs.laws.Waiting.{way-guests}
+use Rattle.growing_history.proofs.Arrivals.{firsts-wait, firsts-leave}
 use Rattle.pair_book.specs.{Handing.firsts, internal.Waits.{AreWaiting, waits_at_last}}
 
 -- where nothing was delivered, dropped by the line or handed out

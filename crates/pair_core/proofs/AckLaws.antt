@@ -7,12 +7,15 @@ use Rattle.std.specs.Prelude.{All, nat_le, nat_lt, remove}
 use Rattle.failover.specs.declared.mode.Mode.TheVariants.{Paired}
 use Rattle.frame_ports.specs.{Addresses.targets_of, Lands.{list_of, with_list}}
 use Rattle.output_gate.specs.Epochs.{Epoch, epoch, frames_of, frames_to, after_number}
-use Rattle.output_gate.proofs.EpochLaws.{frames_to-append}
+use Rattle.output_gate.specs.laws.Epochs.{frames_to-append}
 use Rattle.pair_history.specs.Entries.{Frame, Entry, Ran, Arrive, Land, DropOut, Took}
 use Rattle.pair_history.specs.{HistoryState.{HistoryState, after, at, out_of}, Landings.DropsAreKnown}
 use Rattle.pair_history.specs.{Leaving.{LeaveInOrder, NotGivenUp, leaving, frames_left}, Released.{sent_to, IsFresh}}
-use Rattle.pair_history.proofs.{ClientLists.out_of-append, DropLaws.asked-known, States.{DropsAreKnown-append, targets_of-append}}
-use Rattle.pair_history.proofs.LeavingLaws.{all_leave_in_order, frames_left-append, leaving-append, none_leave, TakesNone}
+use Rattle.pair_history.specs.laws.Leaving.{out_of-append}
+use Rattle.pair_history.specs.laws.Drops.{asked-known, DropsAreKnown-append}
+use Rattle.frame_ports.specs.laws.Addresses.{targets_of-append}
+use Rattle.pair_history.proofs.LeavingLaws.{all_leave_in_order}
+use Rattle.pair_history.specs.laws.Leaving.{frames_left-append, leaving-append, none_leave, TakesNone}
 use Rattle.pair_record.specs.declared.event.Event.{Event}
 use Rattle.pair_core.specs.Acknowledged.{greater, acked_to, greatest_acked, IsOrdinary, AreOrdinary}
 use Rattle.pair_record.specs.declared.event.Event.TheVariants.{Step, Cut}

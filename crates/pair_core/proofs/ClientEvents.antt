@@ -6,7 +6,7 @@ use Rattle.frame_ports.specs.{Addresses.IsFrame, Lands.list_of, Limits.inbox_fra
 use Rattle.output_gate.specs.Epochs.{Epoch}
 use Rattle.pair_history.specs.Entries.{Frame, Entry, Delivered, Refused, DropIn, DropOut, Took}
 use Rattle.pair_history.specs.{HistoryState.{HistoryState, at}, Landings.landings}
-use Rattle.pair_history.proofs.States.{at-append}
+use Rattle.pair_history.specs.laws.Histories.{at-append}
 use Rattle.pair_record.specs.{internal.Accords.Accords, Journal.with_history, declared.window.Window.Window, Modes.is_alone}
 use Rattle.pair_record.specs.Protocol.{Record, Outcome, ack_done, deliver_done, delivery_refused, take_done, loss_done, loss_of, loss_reply}
 use Rattle.pair_record.specs.Protocol.{first_refusal, deliver_refusals, loss_refusals, lost_in, lost_out, let_go}

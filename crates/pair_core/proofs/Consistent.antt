@@ -8,8 +8,8 @@ use Rattle.guest_machine.specs.{declared.shapes.Shape.Shape, Guest.Guest}
 use Rattle.frame_ports.specs.Addresses.{targets_of}
 use Rattle.output_gate.specs.Epochs.{frames_of}
 use Rattle.pair_history.specs.{Entries.{Frame, Entry, Ran, Arrive}, HistoryState.{HistoryState, at}}
-use Rattle.pair_history.specs.internal.Moves.{Move, Steps, Arrives, entries_of, guest_along, frames_along, AllCan}
-use Rattle.pair_history.proofs.Moves.{moved, at-moves, sent_along-moves, Legal-moves, AllCan-front, AllCan-back}
+use Rattle.pair_history.specs.Moves.{Move, Steps, Arrives, entries_of, guest_along, frames_along, AllCan}
+use Rattle.pair_history.specs.laws.Moves.{moved, at-moves, sent_along-moves, Legal-moves, AllCan-front, AllCan-back}
 use Rattle.pair_record.specs.internal.Accords.{all_moves, Accords}
 use Rattle.pair_core.specs.internal.Invariant.{first_moves, AreSealed, IsBacked, Holds, KeepsNothing}
 use Rattle.pair_record.specs.{Journal.{joined, first_of, kept_entries}, Modes.is_alone}

@@ -12,7 +12,6 @@ use Rattle.pair_record.specs.Protocol.{Record, live_at, shown_at, outbox_of, ste
 use Rattle.pair_core.specs.Pair.{is_of_guest}
 use Rattle.guest_machine.specs.Guest.{Guest}
 use Rattle.pair_core.specs.{Calls.Moment, Service.{Enters, guest_entries}}
-use Rattle.pair_record.proofs.JournalLaws.{joined-push}
 use Rattle.pair_core.specs.Lines.{Lines}
 use Rattle.pair_core.proofs.{Ends.{Ends, at_once}, Tells.{OfGuest, first_of-guest, live_all}}
 use Rattle.pair_record.specs.declared.event.Reply.TheVariants as replies

@@ -7,8 +7,8 @@ use Rattle.guest_machine.specs.{declared.shapes.Shape.Shape, Guest.Guest}
 use Rattle.epoch_snapshot.specs.{Bases.IsBase, Checkpoints.Change}
 use Rattle.frame_ports.specs.{Lands.list_of, Ports.empty_ports}
 use Rattle.pair_history.specs.{Entries.{Frame, Entry}, HistoryState.{start_state}}
-use Rattle.pair_history.specs.internal.Moves.{Move, Arrives, entries_of, guest_along, frames_along, left, AllCan}
-use Rattle.pair_history.proofs.Moves.{guest_along-append, frames_along-append}
+use Rattle.pair_history.specs.Moves.{Move, Arrives, entries_of, guest_along, frames_along, left, AllCan}
+use Rattle.pair_history.specs.laws.Moves.{guest_along-append, frames_along-append}
 use Rattle.pair_record.specs.{internal.Accords.{AreClients, all_moves}, Journal.{with_running}, Modes.{is_alone, filled}}
 use Rattle.pair_record.specs.{Protocol.{cut_done, commit_done}, Record.{IsRecord, AreNumbered, ports_after_admit}, Window.with_cut}
 use Rattle.pair_record.specs.Window.{with_commit as with_commit_window}

@@ -6,7 +6,7 @@ use Rattle.std.specs.Prelude.{All, map, ◌==◌}
 use Rattle.epoch_snapshot.specs.Checkpoints.{Change}
 use Rattle.frame_ports.specs.{Limits.number_limit, Ports.PortsState}
 use Rattle.output_gate.specs.{Epochs.{Epoch, frames_of}, Landings.{AreOld, HaveRisen}}
-pub use Rattle.output_gate.proofs.KeptLaws.{risen-same}
+pub use Rattle.output_gate.specs.laws.Ports.{risen-same}
 use Rattle.backup_image.specs.{Images.ImageState, Kept.{count_kept, kept_after, kept_before, kept_with, sent_with}}
 use Rattle.pair_history.specs.Entries.{Frame, Entry}
 use Rattle.pair_record.specs.{Kept.{all_frames, frames_by_epoch, Brings}, Limits.last_frame, FailureActs.first_uncommitted}

@@ -9,8 +9,9 @@ use Rattle.guest_machine.proofs.{ApartLemmas.arrived-apart, ListedLemmas.run-lis
 use Rattle.guest_machine.proofs.MemoryLemmas.{boot-kept, next-kept, arrived-kept, next-disk_bytes}
 use Rattle.epoch_snapshot.specs.{Bases.{IsBase, IsCut}, Checkpoints.Change, Cuts.sector_of, Images.image_of}
 use Rattle.checkpoint_stream.specs.{declared.place.Place.TheVariants.Whole, ReadBack.ReadsBack, Readings.{begun, fed}, Sound.change_in}
-use Rattle.pair_history.specs.{Entries.Frame, internal.Moves.{Move, Steps, Arrives, guest_along, frames_along}}
-use Rattle.pair_history.proofs.Moves.{guest_along-append}
+use Rattle.pair_history.specs.Entries.{Frame}
+use Rattle.pair_history.specs.Moves.{Move, Steps, Arrives, guest_along, frames_along}
+use Rattle.pair_history.specs.laws.Moves.{guest_along-append}
 use Rattle.pair_record.specs.internal.Accords.{all_moves}
 use Rattle.pair_record.proofs.AccordLaws.{all_moves-push}
 use Rattle.pair_core.specs.internal.Invariant.{first_moves, AreSealed, AreNodes, IsBacked}

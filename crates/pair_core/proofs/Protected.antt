@@ -4,7 +4,7 @@ use Rattle.guest_machine.specs.Guest.{Guest}
 use Rattle.epoch_snapshot.specs.{Bases.IsBase, Images.image_of}
 use Rattle.std.proofs.Math.Path.{transport}
 use Rattle.frame_ports.specs.{Limits.number_limit, Numbers.marked}
-use Rattle.pair_history.specs.internal.Moves.{Move, entries_of}
+use Rattle.pair_history.specs.Moves.{Move, entries_of}
 use Rattle.pair_history.specs.HistoryState.{HistoryState}
 use Rattle.pair_record.specs.Protocol.{protect_done}
 use Rattle.pair_record.proofs.ProtectAccords.{lives, protect_accords}

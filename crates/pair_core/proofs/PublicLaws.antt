@@ -9,8 +9,10 @@ use Rattle.frame_ports.specs.Lands.{list_of}
 use Rattle.pair_history.specs.Entries.{Frame, Entry, Ran, Arrive, DropOut, Took, Begins}
 use Rattle.pair_history.specs.{HistoryState.HistoryState, Landings.{DropsAtFull, DropsNone}}
 use Rattle.pair_history.specs.Leaving.{LeaveInOrder, NotGivenUp, leaves_by, frames_left}
-use Rattle.pair_history.specs.internal.Moves.{Move, Steps, Arrives, entries_of}
-use Rattle.pair_history.proofs.{FailureLaws.go_live_leaves, LeavingLaws.{TakesNone, none_leave}, Moves.DropsNone-moves}
+use Rattle.pair_history.specs.Moves.{Move, Steps, Arrives, entries_of}
+use Rattle.pair_history.proofs.FailureLaws.{go_live_leaves}
+use Rattle.pair_history.specs.laws.Leaving.{TakesNone, none_leave}
+use Rattle.pair_history.specs.laws.Moves.{DropsNone-moves}
 use Rattle.pair_record.specs.{declared.event.Event.Event, declared.event.Event.TheVariants.{Step, FailBackup}}
 use Rattle.pair_record.specs.declared.event.Refusal.{Refusal}
 use Rattle.pair_record.specs.{declared.event.Refusal.TheVariants.NoMemory, declared.event.Reply.Reply}

@@ -6,7 +6,7 @@ use Rattle.guest_machine.specs.{declared.shapes.Shape.Shape, Guest.Guest}
 use Rattle.backup_image.specs.Images.{empty_image}
 use Rattle.epoch_snapshot.specs.{Checkpoints.Change, Images.image_of}
 use Rattle.pair_history.specs.{Entries.Entry, HistoryState.{HistoryState, at, sent_along}}
-use Rattle.pair_history.proofs.States.{at-append}
+use Rattle.pair_history.specs.laws.Histories.{at-append}
 use Rattle.pair_record.specs.declared.event.{Event.Event, Event.TheVariants.{Cut, BackupGet, FailBackup, GoLive, Protect}, Refusal.Refusal}
 use Rattle.pair_record.specs.declared.event.Reply.TheVariants as replies
 use Rattle.pair_record.specs.Journal.{joined, kept_entries, first_of, rest_of}

@@ -5,7 +5,7 @@ use Rattle.std.proofs.lemmas.List.Elements.{All-head, All-tail}
 use Rattle.std.specs.Prelude.{All}
 use Rattle.guest_machine.specs.Guest.{Guest}
 use Rattle.pair_history.specs.{Entries.Entry, HistoryState.{HistoryState, after, at, Legal}}
-use Rattle.pair_history.proofs.States.{at-append, Legal-append}
+use Rattle.pair_history.specs.laws.Histories.{at-append, Legal-append}
 use Rattle.memory_wanted.specs.Wanted.{wanted}
 use Rattle.pair_record.specs.{declared.event.Event.Event, declared.event.Event.TheVariants.GoLive, declared.event.Refusal.Refusal}
 use Rattle.pair_record.specs.{declared.event.Refusal.TheVariants.NoMemory, declared.event.Reply.Reply, Journal.{kept_entries, all_entries}}

@@ -7,7 +7,7 @@ use Rattle.guest_machine.specs.{Guest.Guest, Step.{next, sent}, Runs.{after_step
 use Rattle.guest_machine.proofs.RunLemmas.{after_steps-last, no_steps, none_sent}
 use Rattle.frame_ports.specs.Limits.{number_limit}
 use Rattle.pair_history.specs.{Entries.{Frame, Ran}, HistoryState.HistoryState}
-use Rattle.pair_history.specs.internal.Moves.{Steps, guest_along, frames_along}
+use Rattle.pair_history.specs.Moves.{Steps, guest_along, frames_along}
 use Rattle.pair_record.specs.{declared.event.Refusal.Refusal, declared.event.Refusal.TheVariants.{Stopped, CutNeeded, Exhausted}}
 use Rattle.pair_record.specs.{Journal.{all_entries, with_running, with_moves}, Limits.lone_step_entries}
 use Rattle.pair_core.specs.internal.Invariant.{Holds, Stands}
@@ -19,7 +19,9 @@ use Rattle.pair_core.specs.Answering.{step_reply}
 use Rattle.pair_core.specs.Runs.{goes_on, steps_outcome, with_steps}
 use Rattle.pair_record.proofs.AccordLaws.{left_now}
 use Rattle.pair_core.proofs.{Consistent.live_is, Events.{moves_stand, two_hold}, NodesLaws.{shape-after_steps, base-after_run}}
-use Rattle.pair_record.proofs.{JournalLaws.length-all, WindowLaws.test_below, EpochLaws.{entries-steps, can-steps, left-steps}}
+use Rattle.pair_record.specs.Joined.{length-all}
+use Rattle.pair_record.proofs.WindowLaws.{test_below}
+use Rattle.pair_record.proofs.EpochLaws.{entries-steps, can-steps, left-steps}
 use Rattle.pair_core.proofs.Outcomes.{goes, step_sight}
 use Rattle.pair_record.specs.declared.event.Reply.TheVariants as replies
 

@@ -9,7 +9,8 @@ use Rattle.frame_ports.specs.{Addresses.targets_of, Lands.lands}
 use Rattle.output_gate.specs.Epochs.{frames_of}
 use Rattle.pair_history.specs.{Entries.{Ran}, HistoryState.{HistoryState, after, at, Legal}}
 use Rattle.pair_history.specs.{Landings.{landings, BoxesFit}, Leaving.{LeaveInOrder, NotGivenUp}}
-use Rattle.pair_history.proofs.{States.{at-append, Legal-append}, LandingLaws.{BoxesFit-lands, AllClients-targets, landings-land, AllLand}}
+use Rattle.pair_history.specs.laws.Histories.{at-append, Legal-append}
+use Rattle.pair_history.specs.laws.Landings.{BoxesFit-lands, AllClients-targets, landings-land, AllLand}
 use Rattle.memory_wanted.specs.Wanted.{wanted}
 use Rattle.pair_core.specs.{Answering.{AnswersIn}, Calls.Moment, Drops.Drops, Lines.{Protocol, no_packets}}
 use Rattle.pair_record.specs.{declared.event.Event.TheVariants.Step, declared.event.Refusal.Refusal}

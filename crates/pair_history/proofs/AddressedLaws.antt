@@ -5,7 +5,7 @@ use Rattle.std.proofs.lemmas.Bool.Decides.{nat_tests}
 use Rattle.frame_ports.specs.Addresses.{addressed, clients_from, clients_of, paired_with, targets_of}
 use Rattle.pair_history.specs.Entries.{Frame}
 use Rattle.pair_history.specs.HistoryState.{out_of}
-use Rattle.pair_history.proofs.ClientLists.{out_of-append}
+use Rattle.pair_history.specs.laws.Leaving.{out_of-append}
 
 -- of clients from a later one on, none is this one
 none-later : (c n first : ℕ) (bytes : List ℕ) (f : Frame) → c < first → out_of c (paired_with (clients_from n first bytes) f) ≡ []

@@ -1,5 +1,5 @@
 -- Laws of one client's lists: the frames on their way to it, and those in its box.
-use Rattle.std.proofs.Common.{◌≡◌, ℕ, zero, suc, ◌≤◌, List, [], ◌∷◌, ◌++◌, length, remove, refl, arith, cond}
+use Rattle.std.proofs.Common.{◌≡◌, ℕ, zero, suc, ◌≤◌, List, [], ◌∷◌, length, remove, arith, cond}
 use Rattle.std.specs.Prelude.{◌==◌}
 use Rattle.std.proofs.lemmas.Bool.Decides.{nat_tests}
 use Rattle.std.proofs.lemmas.List.{get_or-set_same, get_or-set_other}
@@ -8,10 +8,6 @@ use Rattle.pair_history.specs.Entries.{Frame}
 use Rattle.pair_history.specs.HistoryState.{out_of, out_without}
 
 -- What is on its way to a client.
-
-pub out_of-append : (c : ℕ) (ps qs : List (ℕ × Frame)) → out_of c (ps ++ qs) ≡ out_of c ps ++ out_of c qs
-out_of-append c [] qs = refl
-out_of-append c (p ∷ ps) qs = grind (arith, nat_tests, out_of-append c ps qs)
 
 pub out_of-without : (c d place : ℕ) (ps : List (ℕ × Frame))
     → out_of c (out_without d place ps) ≡ cond (d == c) (remove (out_of c ps) place) (out_of c ps)

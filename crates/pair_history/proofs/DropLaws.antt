@@ -1,5 +1,5 @@
 -- Laws of why a frame for a client is dropped: by a loss that was asked for, or at a full box. No failure drops one for another reason.
-use Rattle.std.proofs.Common.{◌≡◌, ℕ, ◌-◌, ◌≤◌, ◌⊎◌, inl, inr, List, [], ◌∷◌, ◌++◌, length, map, take, drop, refl, sym, ap, ◌∙◌, arith}
+use Rattle.std.proofs.Common.{◌≡◌, ℕ, ◌-◌, ◌⊎◌, inl, inr, List, [], ◌∷◌, ◌++◌, length, map, take, drop, refl, sym, ap, ◌∙◌}
 use Rattle.std.proofs.Common.{Bool, true, false, cond, subst}
 use Rattle.std.specs.Prelude.{◌==◌, nat_lt, All}
 use Rattle.std.specs.List.{filter}
@@ -7,9 +7,9 @@ use Rattle.std.proofs.lemmas.Bool.{lt-ltb, eqb-true}
 use Rattle.std.proofs.lemmas.List.{append-nil}
 use Rattle.std.proofs.lemmas.List.Elements.{All-nil, All-cons, All-append, filter-append}
 use Rattle.frame_ports.specs.{Lands.list_of, Limits.box_frames}
-use Rattle.pair_history.specs.Entries.{Frame, Entry, Ran, Arrive, DropIn, Land, DropOut}
+use Rattle.pair_history.specs.Entries.{Frame, Entry, Ran, DropIn, Land, DropOut}
 use Rattle.pair_history.specs.HistoryState.{HistoryState, at, after, Legal, out_of}
-use Rattle.pair_history.specs.Landings.{IsAtFull, IsInBox, DropsAreKnown, DropsAreAskedOrFull, DropsAtFull, BoxesFit}
+use Rattle.pair_history.specs.Landings.{IsAtFull, IsInBox, DropsAreAskedOrFull, BoxesFit}
 use Rattle.pair_history.specs.Order.{AreGuests}
 use Rattle.pair_history.specs.Reached.{AllClients, IsReached}
 use Rattle.pair_history.specs.Failures.{arrived_numbers, rising, drops_of_taken_in, all_land, go_live_entries, fail_backup_entries}
@@ -17,39 +17,15 @@ use Rattle.pair_history.specs.Failures.{alone_step_entries}
 use Rattle.pair_history.specs.Leaving.{Way, Landed, AtFull, GivenUp, drop_way, in_way, is_given_up, NotGivenUp, leaves_by, leaving}
 use Rattle.pair_history.specs.Leaving.{frames_left, has_landed, frames_landed}
 use Rattle.pair_history.specs.Released.{sent_to, landed_by, released, IsFresh}
-use Rattle.pair_history.proofs.LandingLaws.{landings-land}
-use Rattle.pair_history.proofs.LeavingLaws.{all_leave_in_order, frames_left-append}
+use Rattle.pair_history.specs.laws.Landings.{landings-land}
+use Rattle.pair_history.proofs.LeavingLaws.{all_leave_in_order}
+use Rattle.pair_history.specs.laws.Leaving.{frames_left-append}
 use Rattle.pair_history.proofs.ReachedLaws.{reached}
-use Rattle.pair_history.proofs.TakenInLaws.{without_numbers, at-drops_in}
+use Rattle.pair_history.specs.Waits.{without_numbers}
+use Rattle.pair_history.proofs.TakenInLaws.{at-drops_in}
+use Rattle.pair_history.specs.laws.Drops.{DropsAreAskedOrFull-append, at_full-asked, asked-known, DropsAreAskedOrFull-guests}
 
 -- Of lists of entries.
-
-pub DropsAreAskedOrFull-append : (s : HistoryState) (es fs : List Entry) → DropsAreAskedOrFull s es → DropsAreAskedOrFull (at s es) fs
-    → DropsAreAskedOrFull s (es ++ fs)
-DropsAreAskedOrFull-append s [] fs p q = q
-DropsAreAskedOrFull-append s (DropOut c place ∷ es) fs p q = (p.0, DropsAreAskedOrFull-append (after s (DropOut c place)) es fs p.1 q)
-DropsAreAskedOrFull-append s (other ∷ es) fs p q = DropsAreAskedOrFull-append (after s other) es fs p q
-
-pub at_full-asked : (s : HistoryState) (es : List Entry) → DropsAtFull s es → DropsAreAskedOrFull s es
-at_full-asked s [] p = tt
-at_full-asked s (DropIn n ∷ es) p = absurd p
-at_full-asked s (DropOut c place ∷ es) p = (inr p.0, at_full-asked (after s (DropOut c place)) es p.1)
-at_full-asked s (other ∷ es) p = at_full-asked (after s other) es p
-
-pub asked-known : (s : HistoryState) (es : List Entry) → DropsAreAskedOrFull s es → DropsAreKnown s es
-asked-known s [] p = tt
-asked-known s (DropOut c place ∷ es) p = (by_why p.0, asked-known (after s (DropOut c place)) es p.1)
-  where
-    by_why : IsInBox s c place ⊎ IsAtFull s c place → place ≤ length (list_of s.boxes c)
-    by_why (inl l) = omega (arith, l)
-    by_why (inr f) = omega (arith, f.0, f.1)
-asked-known s (other ∷ es) p = asked-known (after s other) es p
-
-pub DropsAreAskedOrFull-guests : (s : HistoryState) (es : List Entry) → AreGuests es → DropsAreAskedOrFull s es
-DropsAreAskedOrFull-guests s [] g = tt
-DropsAreAskedOrFull-guests s (Ran ∷ es) g = DropsAreAskedOrFull-guests (after s Ran) es g.1
-DropsAreAskedOrFull-guests s (Arrive n ∷ es) g = DropsAreAskedOrFull-guests (after s (Arrive n)) es g.1
-DropsAreAskedOrFull-guests s (other ∷ es) g = absurd g.0
 
 pub asked-each : (s : HistoryState) (before later : List Entry) (c place : ℕ) → DropsAreAskedOrFull s (before ++ DropOut c place ∷ later)
     → IsInBox (at s before) c place ⊎ IsAtFull (at s before) c place

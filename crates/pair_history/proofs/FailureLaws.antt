@@ -6,31 +6,28 @@ use Rattle.std.proofs.lemmas.List.{append-nil, length-append, length-map}
 use Rattle.std.proofs.lemmas.List.Sorted.{length_permutation}
 use Rattle.guest_machine.specs.Step.{next, sent}
 use Rattle.frame_ports.specs.Addresses.{targets_of}
-use Rattle.frame_ports.proofs.AddressLaws.{length-targets_of}
+use Rattle.frame_ports.specs.laws.Addresses.{length-targets_of}
 use Rattle.frame_ports.specs.Lands.{list_of, has_room, landed_at, lands}
 use Rattle.frame_ports.specs.Limits.{box_frames}
 use Rattle.pair_history.specs.Entries.{Frame, Entry, Ran, Arrive, DropIn, Land, DropOut}
 use Rattle.pair_history.specs.HistoryState.{HistoryState, at, after, Legal}
 use Rattle.pair_history.specs.Landings.{landings, BoxesFit}
 use Rattle.pair_history.specs.Leaving.{leaving, LeaveInOrder}
-use Rattle.pair_history.specs.internal.Moves.{Move, Steps, Arrives, entries_of}
 use Rattle.pair_history.specs.Order.{AreGuests}
 use Rattle.pair_history.specs.Reached.{AllClients, IsReached}
 use Rattle.pair_history.specs.Released.{Lands, DropsBoxed, DropsOnWay, Nothing, effect_on, Account, empty_account, booked, goes_on, account}
 use Rattle.pair_history.specs.Failures.{arrived_numbers, rising, drops_of_taken_in}
 use Rattle.pair_history.specs.Failures.{go_live_entries, all_land, fail_backup_entries, alone_step_entries, dropped_numbers}
-use Rattle.pair_history.proofs.States.{at-append, Legal-append}
-use Rattle.pair_history.proofs.LandingLaws.{landings-land}
+use Rattle.pair_history.specs.laws.Histories.{at-append, Legal-append}
+use Rattle.pair_history.specs.laws.Landings.{landings-land}
 use Rattle.pair_history.proofs.LeavingLaws.{landings-leave}
 use Rattle.pair_history.proofs.AccountLaws.{account-append}
 use Rattle.pair_history.proofs.ReachedLaws.{reached}
-use Rattle.pair_history.proofs.TakenInLaws.{without_numbers, taken_in_dropped, at-drops_in, kept_boxes}
-use Rattle.pair_history.proofs.TakenInLaws.{taken_in_rises, IsPermutation-rising}
-
--- How many frames land.
-length-landings : (boxes : List (List Frame)) (ps : List (ℕ × Frame)) → length (landings boxes ps) ≡ length ps
-length-landings boxes [] = refl
-length-landings boxes (p ∷ ps) = let l = length-landings (landed_at boxes p.0 p.1) ps in omega arith
+use Rattle.pair_history.specs.Waits.{without_numbers}
+use Rattle.pair_history.proofs.TakenInLaws.{taken_in_dropped, at-drops_in, kept_boxes}
+use Rattle.pair_history.proofs.TakenInLaws.{taken_in_rises}
+use Rattle.pair_history.specs.laws.Sorted.{IsPermutation-rising}
+use Rattle.pair_history.specs.laws.Landings.{length-landings}
 
 -- The backup goes live.
 
@@ -65,12 +62,6 @@ go_live_leaves s kept clients fit c =
     let ns = rising (arrived_numbers kept) in
     let t : HistoryState = record s { waiting = without_numbers ns s.waiting } in
     rw (drops_in-leave c s ns (all_land s), at-drops_in s ns) (landings-leave t s.out [] (sym (append-nil s.out)) clients fit c)
-
--- what epochs keep are the guest's own entries
-pub AreGuests-moves : (ms : List Move) → AreGuests (entries_of ms)
-AreGuests-moves [] = tt
-AreGuests-moves (Steps ∷ ms) = (tt, AreGuests-moves ms)
-AreGuests-moves (Arrives n f ∷ ms) = (tt, AreGuests-moves ms)
 
 -- two clients, the first of whom has a full box, and a frame on its way to the first between two to the second
 pub two_clients : (s : HistoryState) (b : List Frame) (f g h : Frame) → length b ≡ box_frames → s.boxes ≡ b ∷ [] ∷ []

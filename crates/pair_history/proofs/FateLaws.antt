@@ -12,7 +12,8 @@ use Rattle.pair_history.specs.Entries.{Entry, Arrive, Delivered, DropIn}
 use Rattle.pair_history.specs.HistoryState.{HistoryState, Waiting, frame_numbered, without_number, at, after, Legal}
 use Rattle.pair_history.specs.Failures.{arrived_numbers, dropped_numbers}
 use Rattle.pair_history.specs.Fates.{delivered_numbers, waiting_numbers}
-use Rattle.pair_history.proofs.Waiting.{Waits, first-waits}
+use Rattle.pair_history.specs.Waits.{Waits}
+use Rattle.pair_history.specs.laws.Waiting.{first-waits}
 
 -- a frame that leaves what waits
 leaves : (n : ℕ) (ws : List Waiting) → Waits n ws → IsPermutation (waiting_numbers ws) (n ∷ waiting_numbers (without_number n ws))

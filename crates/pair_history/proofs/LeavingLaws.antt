@@ -1,8 +1,10 @@
 -- Frames leave in the order in which they were sent.
 use Rattle.std.proofs.Common.{arith, ◌≡◌, ℕ, ◌-◌, ◌≤◌, List, [], ◌∷◌, ◌++◌, length, take, refl, sym, ap, ◌∙◌}
 use Rattle.std.proofs.Common.{append_assoc, Bool, true, false}
-use Rattle.std.proofs.{Common.{cond, subst}, lemmas.Bool.Decides.nat_tests, lemmas.List.{append-nil, map-append}}
-use Rattle.std.proofs.lemmas.List.Elements.{All-nil, All-cons, All-head, All-tail, All-append}
+use Rattle.std.proofs.Common.{cond, subst}
+use Rattle.std.proofs.lemmas.Bool.Decides.{nat_tests}
+use Rattle.std.proofs.lemmas.List.{append-nil}
+use Rattle.std.proofs.lemmas.List.Elements.{All-nil, All-cons, All-append}
 use Rattle.std.specs.Prelude.{◌==◌, All, remove}
 use Rattle.guest_machine.specs.Step.{sent}
 use Rattle.frame_ports.specs.{Addresses.targets_of, Lands.{list_of, has_room, landed_at}, Limits.box_frames}
@@ -11,8 +13,11 @@ use Rattle.pair_history.specs.{HistoryState.{HistoryState, after, at, out_of}, L
 use Rattle.pair_history.specs.Leaving.{Way, in_way, leaves_by, leaving, frames_left, LeaveInOrder, NotGivenUp}
 use Rattle.pair_history.specs.Released.{sent_for, sent_to, IsFresh}
 use Rattle.pair_history.specs.{Leaving.{Landed, AtFull}, Reached.AllClients}
-use Rattle.pair_history.proofs.ClientLists.{out_of-append, out_of-without}
-use Rattle.pair_history.proofs.LandingLaws.{one_lands, BoxesFit-at, BoxesFit-landed_at, length-landed_at}
+use Rattle.pair_history.specs.laws.Leaving.{out_of-append}
+use Rattle.pair_history.proofs.ClientLists.{out_of-without}
+use Rattle.pair_history.specs.laws.Landings.{one_lands, BoxesFit-at, BoxesFit-landed_at}
+use Rattle.frame_ports.specs.laws.Lands.{length-landed_at}
+use Rattle.pair_history.specs.laws.Leaving.{frames_left-append}
 
 frames-in_way : (way : Way) (fs : List Frame) → frames_left (in_way way fs) ≡ fs
 frames-in_way way [] = refl
@@ -39,9 +44,6 @@ DropsAreKnown-first : (s : HistoryState) (e : Entry) (es : List Entry) → Drops
     → DropsAreKnown s (e ∷ []) × DropsAreKnown (after s e) es
 DropsAreKnown-first s (DropOut c place) es k = ((k.0, tt), k.1)
 DropsAreKnown-first s other es k = (tt, k)
-
-pub frames_left-append : (xs ys : List (Way × Frame)) → frames_left (xs ++ ys) ≡ frames_left xs ++ frames_left ys
-frames_left-append xs ys = map-append (λ (x : Way × Frame). x.1) xs ys
 
 -- What was on its way, and then what is sent along a history, is what leaves, and then what is on its way at its end.
 pub leave_in_order : (c : ℕ) (s : HistoryState) (es : List Entry) → DropsAreKnown s es
@@ -119,23 +121,3 @@ landings-leave s (p ∷ ps) qs e a fit =
         let full : length (list_of s.boxes p.0) ≡ box_frames = grind (arith, nat_tests) in
         LeaveInOrder-cons s (DropOut p.0 box_frames) (landings (landed_at s.boxes p.0 p.1) ps) p ps (drop_leaves s p (ps ++ qs) e full)
         (subst (λ v. LeaveInOrder v (landings (landed_at s.boxes p.0 p.1) ps) ps) (sym goes.1) more)
-
--- an entry that takes no frame off those on their way
-abbrev pub TakesNone : Entry → Type 0
-TakesNone e = (c : ℕ) (s : HistoryState) → leaves_by c s e ≡ []
-
-pub none_leave : (s : HistoryState) (es : List Entry) → All TakesNone es → LeaveInOrder s es []
-none_leave s [] p c = (refl, All-nil NotGivenUp)
-none_leave s (e ∷ es) p c =
-    let first = All-head TakesNone e es p c s in
-    let t = after s e in
-    let more = none_leave t es (All-tail TakesNone e es p) c in (
-      ap (λ x. frames_left (x ++ leaving t es c)) first ∙ more.0,
-      subst (λ x. All NotGivenUp (x ++ leaving t es c)) (sym first) more.1,
-    )
-
-pub leaving-append : (s : HistoryState) (es fs : List Entry) (c : ℕ) → leaving s (es ++ fs) c ≡ leaving s es c ++ leaving (at s es) fs c
-leaving-append s [] fs c = refl
-leaving-append s (e ∷ es) fs c =
-    ap (λ x. leaves_by c s e ++ x) (leaving-append (after s e) es fs c)
-    ∙ sym (append_assoc (leaves_by c s e) (leaving (after s e) es c) (leaving (at (after s e) es) fs c))

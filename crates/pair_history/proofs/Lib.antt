@@ -1,10 +1,4 @@
-pub mod States
-pub mod Waiting
-pub mod Losses
-pub mod Moves
-pub mod LandingLaws
 pub mod ReachedLaws
-pub mod SortedLaws
 pub mod TakenInLaws
 pub mod FateLaws
 pub mod AddressedLaws
@@ -16,4 +10,3 @@ pub mod OrderLaws
 pub mod LogLaws
 pub mod LeavingLaws
 pub mod DropLaws
-pub mod WaitsLaws

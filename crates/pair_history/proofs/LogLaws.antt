@@ -1,12 +1,12 @@
 -- Laws of stored histories.
-use Rattle.std.proofs.Common.{◌≡◌, ℕ, ◌+◌, ◌≤◌, List, [], ◌∷◌, ◌++◌, length, replicate, take, drop, refl, sym, ap, ◌∙◌, append_assoc, arith}
+use Rattle.std.proofs.Common.{◌≡◌, ℕ, ◌+◌, ◌≤◌, List, [], ◌∷◌, ◌++◌, length, replicate, take, drop, sym, ap, ◌∙◌, append_assoc, arith}
 use Rattle.std.proofs.lemmas.List.{length-append, length-replicate, replicate-append-replicate, take-append-le, drop-append-le, length-drop}
 use Rattle.std.proofs.Math.Seq.{take-length}
 use Rattle.pair_history.specs.Entries as whole
 use Rattle.pair_history.specs.declared.stored.StoredEntry.{StoredEntry}
 use Rattle.pair_history.specs.declared.stored.StoredEntry.TheVariants.{Ran}
 use Rattle.pair_history.specs.internal.Packed.{width, with_bytes, widths, unpacked}
-use Rattle.pair_history.proofs.States.{append-nil}
+use Rattle.std.proofs.lemmas.List.{append-nil}
 
 pub widths-push : (es : List StoredEntry) (e : StoredEntry) → widths (es ++ e ∷ []) ≡ widths es + width e
 widths-push [] e = omega arith

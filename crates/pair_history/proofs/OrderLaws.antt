@@ -9,8 +9,8 @@ use Rattle.frame_ports.specs.Lands.{list_of}
 use Rattle.pair_history.specs.Entries.{Frame, Entry, Ran, Arrive, Delivered, Refused, DropIn, Land, DropOut, Took}
 use Rattle.pair_history.specs.HistoryState.{HistoryState, Waiting, IsFirst, out_of, out_without, at, after, Allows, Legal}
 use Rattle.pair_history.specs.Order.{IsGuests, AreGuests, IsReady}
-use Rattle.pair_history.proofs.ClientLists.{out_of-append}
-use Rattle.pair_history.proofs.Waiting.{IsFirst-more, frame_numbered-more, first-waits, found-without, without-swaps, IsFirst-without}
+use Rattle.pair_history.specs.laws.Leaving.{out_of-append}
+use Rattle.pair_history.specs.laws.Waiting.{IsFirst-more, frame_numbered-more, first-waits, found-without, without-swaps, IsFirst-without}
 
 -- what is sent later goes behind what is on its way
 out_without-more : (c place : ℕ) (ps qs : List (ℕ × Frame)) → place < length (out_of c ps)

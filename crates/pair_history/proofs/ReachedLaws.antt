@@ -1,6 +1,6 @@
 -- Each entry of a legal history keeps what is so of the states that it leads to.
-use Rattle.std.proofs.Common.{ℕ, zero, suc, ◌-◌, ◌<◌, ◌≤◌, List, [], ◌∷◌, ◌++◌, length, take}
-use Rattle.std.proofs.Common.{drop, remove, replicate, arith}
+use Rattle.std.proofs.Common.{ℕ, ◌-◌, ◌<◌, ◌≤◌, List, [], ◌∷◌, ◌++◌, length, take}
+use Rattle.std.proofs.Common.{drop, remove, arith}
 use Rattle.std.proofs.lemmas.Bool.Decides.{nat_tests}
 use Rattle.std.proofs.lemmas.List.{length-append, length-set, length-take, length-drop}
 use Rattle.std.proofs.lemmas.List.Edits.{length-remove}
@@ -12,8 +12,9 @@ use Rattle.pair_history.specs.Entries.{Frame, Entry, Ran, Arrive, Delivered, Ref
 use Rattle.pair_history.specs.HistoryState.{HistoryState, out_of, out_without, at, after, Allows, Legal}
 use Rattle.pair_history.specs.Landings.{BoxesFit}
 use Rattle.pair_history.specs.Reached.{AllClients, IsReached}
-use Rattle.pair_history.proofs.LandingLaws.{BoxesFit-set, BoxesFit-at, AllClients-targets}
-use Rattle.pair_history.proofs.Waiting.{AreRising-push, AreRising-without}
+use Rattle.pair_history.specs.laws.Landings.{BoxesFit-set, BoxesFit-at, AllClients-targets}
+use Rattle.pair_history.specs.laws.Waiting.{AreRising-push, AreRising-without}
+use Rattle.pair_history.specs.laws.Landings.{BoxesFit-empty}
 
 -- more frames on their way, and one less
 
@@ -60,10 +61,6 @@ module _ (s : HistoryState) (h : IsReached s) where
 pub reached : (s : HistoryState) (es : List Entry) → IsReached s → Legal s es → IsReached (at s es)
 reached s [] h legal = h
 reached s (e ∷ es) h legal = reached (after s e) es (one_reached s h e legal.0) legal.1
-
-pub BoxesFit-empty : (clients : ℕ) → BoxesFit (replicate clients [])
-BoxesFit-empty zero = tt
-BoxesFit-empty (suc clients) = (omega arith, BoxesFit-empty clients)
 
 -- what `reached_states` follows from
 pub ruleset reached_laws = (reached, BoxesFit-empty)

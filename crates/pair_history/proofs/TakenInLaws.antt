@@ -5,12 +5,13 @@ use Rattle.std.proofs.lemmas.Bool.Decides.{nat_tests}
 use Rattle.pair_history.specs.Entries.{Entry, Ran, Arrive, DropIn}
 use Rattle.pair_history.specs.HistoryState.{HistoryState, Waiting, without_number, at, after, Legal}
 use Rattle.pair_history.specs.Order.{AreGuests}
-use Rattle.pair_history.specs.internal.Moves.{AreRising}
-pub use Rattle.pair_history.specs.internal.Waits.{without_numbers, AllWait}
+use Rattle.pair_history.specs.Reached.{AreRising}
+pub use Rattle.pair_history.specs.Waits.{without_numbers, AllWait}
 use Rattle.pair_history.specs.Failures.{arrived_numbers, put_rising, rising, drops_of_taken_in}
-use Rattle.pair_history.proofs.Waiting.{Waits, first-waits, AreRising-without, found-without, without-swaps, gone}
-use Rattle.pair_history.proofs.SortedLaws.{Climb, Climb-rising}
-pub use Rattle.pair_history.proofs.SortedLaws.{IsPermutation-rising}
+use Rattle.pair_history.specs.laws.Waiting.{first-waits, AreRising-without, found-without, without-swaps, gone}
+use Rattle.pair_history.specs.laws.Sorted.{Climb, Climb-rising}
+pub use Rattle.pair_history.specs.laws.Sorted.{IsPermutation-rising}
+use Rattle.pair_history.specs.laws.Waits.{without_numbers-rising}
 
 -- They leave in any order, and in the rising one.
 
@@ -27,15 +28,6 @@ AllWait-put n (m ∷ ns) ws h =
 AllWait-rising : (ns : List ℕ) (ws : List Waiting) → AllWait ns ws → AllWait (rising ns) ws
 AllWait-rising [] ws h = h
 AllWait-rising (n ∷ ns) ws h = AllWait-put n (rising ns) ws (h.0, AllWait-rising ns (without_number n ws) h.1)
-
-without_numbers-put : (n : ℕ) (ns : List ℕ) (ws : List Waiting) → without_numbers (put_rising n ns) ws ≡ without_numbers (n ∷ ns) ws
-without_numbers-put n [] ws = refl
-without_numbers-put n (m ∷ ns) ws =
-    grind (arith, nat_tests, without_numbers-put n ns (without_number m ws), without-swaps n m ws)
-
-pub without_numbers-rising : (ns : List ℕ) (ws : List Waiting) → without_numbers (rising ns) ws ≡ without_numbers ns ws
-without_numbers-rising [] ws = refl
-without_numbers-rising (n ∷ ns) ws = without_numbers-put n (rising ns) ws ∙ without_numbers-rising ns (without_number n ws)
 
 -- Kept entries take in what waits, and leave the rest; dropping what they took in leaves the same.
 

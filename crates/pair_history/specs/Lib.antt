@@ -1,7 +1,10 @@
 pub mod internal
+pub mod laws
 pub mod Entries
 pub mod HistoryState
 pub mod Order
+pub mod Moves
+pub mod Waits
 pub mod Landings
 pub mod Reached
 pub mod Failures

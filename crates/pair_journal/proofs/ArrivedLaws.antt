@@ -1,20 +1,18 @@
 -- Laws of the frames that arrived in kept epochs: how many they are, and what the history gains where they are dropped.
-use Rattle.std.proofs.Common.{rules, arith, ◌≡◌, ℕ, zero, suc, ◌+◌, ◌<◌, ◌≤◌, List, [], ◌∷◌, ◌++◌, length, refl, sym, ap, ◌∙◌}
+use Rattle.std.proofs.Common.{rules, arith, ◌≡◌, ℕ, zero, suc, ◌+◌, ◌<◌, List, [], ◌∷◌, ◌++◌, length, refl, sym, ap, ◌∙◌}
 use Rattle.std.proofs.lemmas.List.{append-nil, length-append, length-map, Sorted.length_permutation}
 use Rattle.std.specs.{Prelude.map, List.Sorted.{IsPermutation, IsNonDecreasing}}
 use Rattle.frame_ports.specs.Limits.{number_limit}
-use Rattle.pair_history.specs.{Entries.{Entry, Arrive, DropIn}, Failures.{arrived_numbers, rising, drops_of_taken_in}}
-use Rattle.pair_history.proofs.{SortedLaws.rising-sorted, TakenInLaws.IsPermutation-rising, WaitsLaws.arrived_numbers-append}
+use Rattle.pair_history.specs.Entries.{Entry, DropIn}
+use Rattle.pair_history.specs.Failures.{arrived_numbers, rising, drops_of_taken_in}
+use Rattle.pair_history.specs.laws.Sorted.{rising-sorted}
+use Rattle.pair_history.specs.laws.Waits.{arrived_numbers-append}
 use Rattle.pair_journal.specs.declared.{epochs.Arrival.Arrival, epochs.RunningEpoch.RunningEpoch, journal.Journal.TheInside.Inside}
 use Rattle.pair_journal.specs.{Journal.{Journal, joined, kept_entries}, internal.JournalFields.{epoch_of, stored, AreFields}}
 use Rattle.pair_journal.specs.internal.Arrivals.{steps_of, arrivals_of, epoch_entries, numbers_of, numbers_in}
+use Rattle.pair_history.specs.laws.Waits.{arrived-few}
 
 -- The numbers of the frames that arrived
-
-pub arrived-few : (es : List Entry) → length (arrived_numbers es) ≤ length es
-arrived-few [] = omega arith
-arrived-few (Arrive n ∷ es) = let l = arrived-few es in omega arith
-arrived-few (other ∷ es) = let l = arrived-few es in omega arith
 
 arrived-steps : (k : ℕ) → arrived_numbers (steps_of k) ≡ []
 arrived-steps zero = refl
@@ -44,11 +42,6 @@ arrived-kept a = search (arith, rules, arrived_numbers-append, arrived-epoch, ar
 pub drops-are : (j : Journal) (ns : List ℕ) → IsPermutation (arrived_numbers (kept_entries j)) ns → IsNonDecreasing ns
     → drops_of_taken_in (kept_entries j) ≡ map DropIn ns
 drops-are j ns same sorted = ap (map DropIn) (sym (rising-sorted (arrived_numbers (kept_entries j)) ns same sorted))
-
-pub length-drops : (j : Journal) → length (drops_of_taken_in (kept_entries j)) ≡ length (arrived_numbers (kept_entries j))
-length-drops j =
-    let ns = arrived_numbers (kept_entries j) in
-    length-map (rising ns) DropIn ∙ length_permutation ns (rising ns) (IsPermutation-rising ns)
 
 -- The journal
 

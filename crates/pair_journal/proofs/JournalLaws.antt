@@ -1,10 +1,9 @@
--- Laws of stored epochs, and of how many entries a journal has.
-use Rattle.std.proofs.Common.{rules, arith, ◌≡◌, ℕ, ◌+◌, List, [], ◌∷◌, ◌++◌, length, sym, ap, ◌∙◌, append_assoc}
-use Rattle.std.proofs.lemmas.List.{append-nil, length-append, replicate-append-replicate}
-use Rattle.pair_history.specs.Entries.{Entry, Ran, Arrive}
+-- Laws of stored epochs.
+use Rattle.std.proofs.Common.{rules, arith, ◌≡◌, ℕ, ◌+◌, List, [], ◌∷◌, ◌++◌, sym, ap, ◌∙◌, append_assoc}
+use Rattle.std.proofs.lemmas.List.{append-nil, replicate-append-replicate}
+use Rattle.pair_history.specs.Entries.{Ran, Arrive}
 use Rattle.pair_journal.specs.declared.epochs.Arrival.{Arrival}
 use Rattle.pair_journal.specs.internal.Arrivals.{steps_of, arrival_of, arrivals_of, epoch_entries}
-use Rattle.pair_journal.specs.Journal.{Journal, joined, kept_entries, all_entries}
 
 -- an epoch goes on by steps, or by an arrival
 
@@ -20,14 +19,3 @@ arrivals_of-push (y ∷ arrivals) x = ap (λ t. arrival_of y ++ t) (arrivals_of-
 pub epoch-arrives : (arrivals : List Arrival) (n k : ℕ)
     → epoch_entries arrivals n ++ Arrive k ∷ [] ≡ epoch_entries (arrivals ++ record { steps = n; number = k } ∷ []) 0
 epoch-arrives arrivals n k = search (arith, rules, append-nil, append_assoc, arrivals_of-push)
-
-pub joined-push : (ess : List (List Entry)) (es : List Entry) → joined (ess ++ es ∷ []) ≡ joined ess ++ es
-joined-push [] es = append-nil es
-joined-push (x ∷ ess) es = ap (λ t. x ++ t) (joined-push ess es) ∙ sym (append_assoc x (joined ess) es)
-
--- how many entries there are in all
-pub length-all : (j : Journal) → length (all_entries j) ≡ length j.history + (length (joined j.sealed) + length j.running)
-length-all j = length-append j.history (kept_entries j) ∙ ap (λ n. length j.history + n) (length-append (joined j.sealed) j.running)
-
-pub length-kept : (j : Journal) → length (kept_entries j) ≡ length (joined j.sealed) + length j.running
-length-kept j = length-append (joined j.sealed) j.running

@@ -1,13 +1,8 @@
 -- How many landings there are of frames.
-use Rattle.std.proofs.Common.{◌≡◌, ℕ, suc, ◌+◌, ◌<◌, List, [], ◌∷◌, length, drop, get_or, refl, sym, ap, ◌∙◌}
+use Rattle.std.proofs.Common.{◌≡◌, ℕ, ◌+◌, ◌<◌, List, ◌∷◌, length, drop, get_or, sym, ap, ◌∙◌}
 use Rattle.std.proofs.lemmas.List.{drop_more, length-append, length-map}
-use Rattle.frame_ports.specs.{Addresses.{targets_of, paired_with, clients_of}, Lands.landed_at}
-use Rattle.pair_history.specs.{Entries.Frame, Landings.landings}
-
--- each landing is one entry
-pub length-landings : (bs : List (List Frame)) (ps : List (ℕ × Frame)) → length (landings bs ps) ≡ length ps
-length-landings bs [] = refl
-length-landings bs (p ∷ ps) = ap suc (length-landings (landed_at bs p.0 p.1) ps)
+use Rattle.frame_ports.specs.Addresses.{targets_of, paired_with, clients_of}
+use Rattle.pair_history.specs.Entries.{Frame}
 
 -- of the frames from this place on, those of the one there and those of the others
 pub targets-more : (n : ℕ) (fs : List Frame) (i : ℕ) (f : Frame) → i < length fs → f ≡ get_or fs i f

@@ -1,4 +1,5 @@
 pub mod internal
+pub mod laws
 pub mod Journal
 pub mod Epochs
 pub mod LandedEntries

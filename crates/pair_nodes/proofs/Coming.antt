@@ -4,7 +4,7 @@ use Rattle.std.specs.Prelude.{◌⊎◌}
 use Rattle.guest_machine.specs.declared.shapes.Shape.{Shape}
 use Rattle.checkpoint_stream.specs.{Sound.change_in, declared.place.Place.{TheVariants.Whole}}
 use Rattle.checkpoint_stream.specs.Readings.{Reading, begun, fed, is_closed}
-use Rattle.checkpoint_stream.proofs.Feeding.{fed-append, fed-closed}
+use Rattle.checkpoint_stream.specs.laws.Feeding.{fed-append, fed-closed}
 use Rattle.pair_core.specs.Nodes.{read_as}
 use Rattle.pair_nodes.specs.Runs.{Begin}
 use Rattle.pair_nodes.proofs.Places.{place-stays}

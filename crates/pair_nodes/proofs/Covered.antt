@@ -5,7 +5,7 @@ use Rattle.std.specs.Prelude.{nat_le, nat_lt}
 use Rattle.guest_machine.specs.Runs.{sent_in}
 use Rattle.epoch_snapshot.specs.Checkpoints.{Change}
 use Rattle.output_gate.specs.Epochs.{Epoch, frames_of, frames_to, after_number}
-use Rattle.output_gate.proofs.EpochLaws.{frames_to-append}
+use Rattle.output_gate.specs.laws.Epochs.{frames_to-append}
 use Rattle.pair_history.specs.Entries.{Frame}
 use Rattle.pair_record.specs.{declared.event.Refusal.Refusal, Modes.is_alone, Tables.first_refusal, Window.NumberedFrom}
 use Rattle.pair_core.specs.{Pair.Pair}

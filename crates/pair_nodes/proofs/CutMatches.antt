@@ -2,7 +2,7 @@
 use Rattle.std.proofs.Common.{◌≡◌, ℕ, ◌+◌, ◌≤◌, List, [], ◌∷◌, ◌++◌, length, refl, sym, ap, ◌∙◌, arith, false, None}
 use Rattle.std.proofs.lemmas.List.{drop-append-le, length-append}
 use Rattle.output_gate.specs.Epochs.{Epoch}
-use Rattle.pair_history.specs.internal.Moves.{guest_along}
+use Rattle.pair_history.specs.Moves.{guest_along}
 use Rattle.pair_record.specs.declared.event.{Packet.Packet, Event.TheVariants.Cut}
 use Rattle.pair_record.specs.declared.event.Reply.TheVariants as replies
 use Rattle.pair_record.specs.{internal.Accords.all_moves, Modes.{is_alone, is_stopped}, Window.committed_count, Protocol.{first_refusal, cut_refusals}}

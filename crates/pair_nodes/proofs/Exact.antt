@@ -5,7 +5,7 @@ use Rattle.std.specs.Prelude.{nat_le, nat_lt}
 use Rattle.checkpoint_stream.specs.Sound.{change_in}
 use Rattle.epoch_snapshot.specs.Checkpoints.{Change}
 use Rattle.output_gate.specs.Epochs.{Epoch, frames_to, after_number}
-use Rattle.output_gate.proofs.EpochLaws.{frames_to-append}
+use Rattle.output_gate.specs.laws.Epochs.{frames_to-append}
 use Rattle.pair_record.specs.{declared.event.Refusal.Refusal, Tables.first_refusal, Window.NumberedFrom}
 use Rattle.pair_core.specs.{Pair.Pair}
 use Rattle.pair_nodes.specs.Frames.{NoneIsHeardBeyond, out_to}

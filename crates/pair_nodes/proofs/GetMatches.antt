@@ -15,7 +15,7 @@ use Rattle.pair_core.proofs.{LineLaws.below_at, ReplicationLaws.after_commit}
 use Rattle.pair_nodes.specs.Matching.{Fits, HasRoom, HaveNames, Matches, IsServed, site_of, standby_of, WasSent}
 use Rattle.pair_nodes.specs.{Sides.{to_commit, get_rows}, StandbyCalls.commit_rows}
 use Rattle.checkpoint_stream.specs.Readings.{Reading, begun, fed}
-use Rattle.checkpoint_stream.proofs.Feeding.{fed-append}
+use Rattle.checkpoint_stream.specs.laws.Feeding.{fed-append}
 use Rattle.pair_nodes.proofs.{Coming.{fed-none, some-came, whole-reads}, Then.{nothing_served, served_then}}
 use Rattle.pair_nodes.specs.Networks.{Output}
 use Rattle.pair_nodes.specs.Runs.{Premises, Begin}

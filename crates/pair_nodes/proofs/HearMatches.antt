@@ -4,7 +4,7 @@ use Rattle.std.proofs.{Common.{None, Some, inl, Bool}, lemmas.List.{drop-drop, l
 use Rattle.std.specs.Prelude.{slice_get}
 use Rattle.frame_ports.specs.{Limits.number_limit, Ports.PortsState}
 use Rattle.output_gate.specs.{Epochs.{Epoch, after_number, frames_to}, Landings.ports_after}
-use Rattle.output_gate.proofs.PortsAfterLaws.{boxes_count-after, numbers_count-after}
+use Rattle.output_gate.specs.laws.Ports.{boxes_count-after, numbers_count-after}
 use Rattle.pair_record.specs.declared.event.{Packet.Packet, Event.TheVariants.AckGet, Refusal.TheVariants.Exhausted}
 use Rattle.pair_record.specs.Modes.{is_alone, is_stopped}
 use Rattle.pair_record.specs.Protocol.{Record, first_refusal, ack_refusals, ack_done, ack_outcome, let_go}
@@ -20,7 +20,7 @@ use Rattle.pair_nodes.specs.Networks.{Output, with_out}
 use Rattle.pair_nodes.specs.Runs.{Premises, adds}
 use Rattle.pair_nodes.specs.Sites.{Site, Happens, hears, hear_site}
 use Rattle.pair_history.specs.Landings.{landings}
-use Rattle.pair_record.proofs.LengthLaws.{length-landings}
+use Rattle.pair_history.specs.laws.Landings.{length-landings}
 use Rattle.pair_nodes.proofs.Counts.{history_counts, targets-part}
 use Rattle.pair_nodes.proofs.{NameLaws.names-gone, Outs.hear-frames}
 use Rattle.pair_nodes.proofs.{Bags.{at_site, has-standby, matches_so, sent_on}, PairEvents.{both_go, in_mode, one_event}, Series.series-drop}

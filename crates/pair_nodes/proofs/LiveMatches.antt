@@ -4,7 +4,7 @@ use Rattle.std.proofs.{Common.{cond}, lemmas.List.take_all}
 use Rattle.failover.specs.declared.mode.{Mode.Mode, Mode.TheVariants.{Stopped}}
 use Rattle.frame_ports.specs.{Limits.number_limit, Ports.PortsState}
 use Rattle.output_gate.specs.{Epochs.{frames_of, frames_to}, Landings.ports_after}
-use Rattle.output_gate.proofs.PortsAfterLaws.{boxes_count-after, numbers_count-after}
+use Rattle.output_gate.specs.laws.Ports.{boxes_count-after, numbers_count-after}
 use Rattle.pair_history.specs.{Landings.landings}
 use Rattle.pair_record.specs.declared.event.{Packet.Packet, Event.TheVariants.GoLive, Refusal.TheVariants.Exhausted}
 use Rattle.pair_record.specs.{Kept.{all_frames, brought}, FailureActs.first_uncommitted}
@@ -15,7 +15,7 @@ use Rattle.pair_record.proofs.{BroughtLaws.brought_ports, EpochAccords.drop-none
 use Rattle.pair_core.specs.{Kept.first_kept, Lines.packet, Nodes.gone_live, Pair.{Pair, shown_state}}
 use Rattle.pair_core.proofs.{GoneLive.gone_live_holds, KeptLaws.keeps_brings, Outcomes.goes}
 use Rattle.pair_nodes.specs.Matching.{CanGoLive, Fits, HasRoom, Kept, Matches, IsServed, network_of, site_of, primary_of, standby_of}
-use Rattle.frame_ports.proofs.AddressLaws.{targets_of-clients}
+use Rattle.frame_ports.specs.laws.Addresses.{targets_of-clients}
 use Rattle.checkpoint_stream.specs.Readings.{begun}
 use Rattle.pair_nodes.proofs.Coming.{fed-none}
 use Rattle.pair_nodes.proofs.{Losses.{landings_lost, losses_served}, NameLaws.{names-new, one-generation}, Outs.live-frames}
@@ -27,9 +27,10 @@ use Rattle.pair_nodes.specs.Sites.{Site, Happens, goes_live, live_site}
 use Rattle.std.proofs.Common.{◌++◌}
 use Rattle.std.proofs.lemmas.List.{length-append}
 use Rattle.frame_ports.specs.Addresses.{targets_of}
-use Rattle.pair_history.proofs.States.{targets_of-append}
-use Rattle.pair_journal.proofs.ArrivedLaws.{arrived-few}
-use Rattle.pair_record.proofs.{KeptLists.{all_frames-append, all_frames-epochs}, LengthLaws.length-landings}
+use Rattle.frame_ports.specs.laws.Addresses.{targets_of-append}
+use Rattle.pair_history.specs.laws.Waits.{arrived-few}
+use Rattle.pair_record.proofs.KeptLists.{all_frames-append, all_frames-epochs}
+use Rattle.pair_history.specs.laws.Landings.{length-landings}
 use Rattle.pair_record.specs.{Journal.kept_entries, Kept.frames_by_epoch}
 use Rattle.pair_nodes.proofs.{Bags.{at_site, at_most, matches_so, next_is, sent_on}, PairEvents.{in_mode, one_event}}
 

@@ -5,16 +5,20 @@ use Rattle.std.proofs.lemmas.Bool.Decides.{nat_tests}
 use Rattle.std.proofs.lemmas.List.{append-nil, length-append, length-replicate}
 use Rattle.failover.specs.declared.mode.{Mode.TheVariants.Alone}
 use Rattle.frame_ports.specs.{Addresses.targets_of, Lands.lands, Ports.PortsState}
-use Rattle.frame_ports.proofs.{AddressLaws.targets_of-append, LandLaws.{lands-append, length-lands}}
+use Rattle.frame_ports.specs.laws.Addresses.{targets_of-append}
+use Rattle.frame_ports.specs.laws.Lands.{lands-append, length-lands}
 use Rattle.guest_machine.specs.{Guest.Guest, Runs.{after_steps, sent_in, marked_in, HaveRoom}, Step.{next, sent}}
 use Rattle.guest_machine.proofs.SentLemmas.{few_sent}
 use Rattle.output_gate.specs.Landings.{ports_after}
-use Rattle.output_gate.proofs.PortsAfterLaws.{boxes_count-after, numbers_count-after}
+use Rattle.output_gate.specs.laws.Ports.{boxes_count-after, numbers_count-after}
 use Rattle.pair_history.specs.Entries.{Frame, Ran}
 use Rattle.pair_history.specs.Landings.{landings}
 use Rattle.pair_record.specs.declared.event.{Packet.Packet, Event.TheVariants.Step}
 use Rattle.pair_record.specs.{Limits.last_frame, Modes.is_alone, Record.ports_landed, Tables.frames_run_out}
-use Rattle.pair_record.proofs.{AccordLaws.first_lone, LengthLaws.length-landings, NumberLaws.{landed_ports, lone_numbers}, RecordLaws.history_record}
+use Rattle.pair_record.proofs.AccordLaws.{first_lone}
+use Rattle.pair_history.specs.laws.Landings.{length-landings}
+use Rattle.pair_record.proofs.NumberLaws.{landed_ports, lone_numbers}
+use Rattle.pair_record.proofs.RecordLaws.{history_record}
 use Rattle.pair_core.specs.{Pair.Pair, internal.Invariant.KeepsNothing}
 use Rattle.pair_core.proofs.{AloneRuns.{after_alone, alone_holds, alone_answered}, Consistent.{alone_is, keeps_nothing}}
 use Rattle.pair_nodes.specs.Matching.{Fits, HasRoom, Kept, Matches, IsServed, site_of}

@@ -4,7 +4,7 @@ use Rattle.std.proofs.lemmas.List.{length-append, length-set, get_or-set_same, s
 use Rattle.std.proofs.lemmas.List.Elements.{All-head, All-tail}
 use Rattle.std.specs.Prelude.{All}
 use Rattle.frame_ports.specs.Lands.{list_of, with_list, has_room, landed_at, lands}
-use Rattle.frame_ports.proofs.LandLaws.{length-landed_at}
+use Rattle.frame_ports.specs.laws.Lands.{length-landed_at}
 use Rattle.pair_history.specs.Entries.{Frame}
 use Rattle.pair_core.specs.Pair.{Pair}
 use Rattle.pair_nodes.specs.Matching.{HasRoom, IsServed, Matches}

@@ -7,12 +7,12 @@ use Rattle.guest_machine.specs.{Guest.Guest, Step.{sent}, Runs.sent_in}
 use Rattle.frame_ports.specs.Lands.{has_room, landed_at}
 use Rattle.frame_ports.specs.Limits.{box_frames}
 use Rattle.output_gate.specs.Epochs.{Epoch, frames_of, frames_to, after_number}
-use Rattle.output_gate.proofs.EpochLaws.{frames_of-append}
+use Rattle.output_gate.specs.laws.Epochs.{frames_of-append}
 use Rattle.pair_history.specs.Entries.{Frame, Entry, Ran, Arrive, DropIn, Land, DropOut}
 use Rattle.pair_history.specs.{Failures.{drops_of_taken_in, arrived_numbers, rising}, Landings.landings}
 use Rattle.pair_history.specs.HistoryState.{HistoryState, at, after, sent_along, sent_by}
-use Rattle.pair_history.specs.internal.Moves.{Move, entries_of, guest_along, frames_along, AllCan}
-use Rattle.pair_history.proofs.{Moves.{AllCan-front, frames_along-append, sent_along-moves}}
+use Rattle.pair_history.specs.Moves.{Move, entries_of, guest_along, frames_along, AllCan}
+use Rattle.pair_history.specs.laws.Moves.{AllCan-front, frames_along-append, sent_along-moves}
 use Rattle.pair_record.specs.Journal.{joined, first_of, kept_entries, with_moves}
 use Rattle.pair_record.specs.internal.Accords.{all_moves, epoch_frames, frames_by_epoch}
 use Rattle.pair_record.specs.{Window.{NumberedFrom, committed_count, committed_of, uncommitted_of, with_acknowledged}}

@@ -4,7 +4,7 @@ use Rattle.std.proofs.{Common.{Bool, cond}, lemmas.List.length-replicate}
 use Rattle.failover.specs.declared.mode.{Mode.TheVariants.{Alone}}
 use Rattle.frame_ports.specs.{Limits.number_limit, Numbers.marked, Ports.PortsState}
 use Rattle.output_gate.specs.{Epochs.frames_of, Landings.ports_after}
-use Rattle.output_gate.proofs.PortsAfterLaws.{boxes_count-after, numbers_count-after}
+use Rattle.output_gate.specs.laws.Ports.{boxes_count-after, numbers_count-after}
 use Rattle.pair_record.specs.declared.event.{Packet.Packet, Event.TheVariants.{FailBackup, Protect}, Refusal.TheVariants.Exhausted}
 use Rattle.pair_record.specs.{Modes.{is_alone, is_stopped, mode_refusal}, Record.{first_held, ports_after_all}, Window.{committed_count, none_pending}}
 use Rattle.pair_record.specs.Protocol.{Outcome, first_refusal, all_held, fail_backup_refusals, fail_backup_done, protect_refusals, protect_done}
@@ -21,7 +21,7 @@ use Rattle.pair_nodes.specs.Networks.{Output, with_out}
 use Rattle.pair_nodes.specs.Runs.{Premises, adds}
 use Rattle.pair_nodes.specs.Sites.{Site, Happens, protects, goes_alone, protect_site, alone_site}
 use Rattle.pair_history.specs.Landings.{landings}
-use Rattle.pair_record.proofs.LengthLaws.{length-landings}
+use Rattle.pair_history.specs.laws.Landings.{length-landings}
 use Rattle.pair_nodes.proofs.Counts.{entered_counts, protect_counts, same-count}
 use Rattle.pair_nodes.proofs.{NameLaws.{names-new, one-generation, one-number}, Outs.{alone-frames, none-held, same-out}}
 use Rattle.pair_nodes.proofs.{Bags.{at_site, at_most, has-none, has-standby, matches_so, sent_on}, PairEvents.{both_fail, in_mode, one_event}, Series.numbered}

@@ -4,7 +4,7 @@ use Rattle.checkpoint_stream.specs.{Readings.{Reading, fed}, Sound.change_in, An
 use Rattle.checkpoint_stream.specs.declared.errors.StreamError.{StreamError}
 use Rattle.checkpoint_stream.specs.declared.errors.StreamError.TheVariants.{Malformed, NoMemory}
 use Rattle.std.proofs.Common.{Result, Ok, Err, ap, ◌∙◌}
-use Rattle.checkpoint_stream.proofs.Extending.{Extends-itself, fed-extends}
+use Rattle.checkpoint_stream.specs.laws.Extending.{Extends-itself, fed-extends}
 
 pub fed_shape : (r : Reading) (bytes : List ℕ) → (fed r bytes).shape ≡ r.shape
 fed_shape r bytes = (fed-extends r r bytes (Extends-itself r)).shape

@@ -15,7 +15,7 @@ use Rattle.pair_nodes.specs.Matching.{HasRoom, IsServed, Kept, Matches, held_of,
 use Rattle.pair_nodes.specs.Networks.{frames_in}
 use Rattle.std.proofs.lemmas.List.{take-append-drop}
 use Rattle.output_gate.specs.Epochs.{frames_of}
-use Rattle.output_gate.proofs.EpochLaws.{frames_of-append}
+use Rattle.output_gate.specs.laws.Epochs.{frames_of-append}
 use Rattle.pair_record.specs.{Journal.kept_entries, Window.{committed_count, committed_of, uncommitted_of}}
 use Rattle.checkpoint_stream.specs.Readings.{begun}
 use Rattle.pair_nodes.proofs.Coming.{fed-none}

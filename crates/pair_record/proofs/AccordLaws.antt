@@ -9,16 +9,21 @@ use Rattle.guest_machine.specs.Guest.{Guest}
 use Rattle.frame_ports.specs.{Addresses.targets_of, Lands.{list_of, with_list}, Ports.{PortsState, empty_ports}}
 use Rattle.failover.specs.declared.mode.Mode.{Mode}
 use Rattle.output_gate.specs.Epochs.{Epoch, frames_of}
-pub use Rattle.output_gate.proofs.EpochLaws.{frames_of-append}
+pub use Rattle.output_gate.specs.laws.Epochs.{frames_of-append}
 use Rattle.pair_history.specs.Entries.{Frame, Entry}
 use Rattle.pair_history.specs.HistoryState.{HistoryState, Waiting, inbox_of, without_number, at, Legal, start_state}
 use Rattle.pair_history.specs.Landings.{DropsAreAskedOrFull}
-use Rattle.pair_history.specs.internal.Moves.{Move, Arrives, entry_of, entries_of, guest_along, frames_along, left, AllCan}
-use Rattle.pair_history.proofs.States.{at-append, Legal-append, targets_of-append}
-use Rattle.pair_history.proofs.{ReachedLaws.BoxesFit-empty, Waiting.{Leaves, StandsAt, leaves-at}}
-use Rattle.pair_history.proofs.Moves.{guest_along-append, frames_along-append, left-append, AllCan-append, AllCan-front, AllCan-back, moved}
-use Rattle.pair_history.proofs.{Moves.{at-moves, Legal-moves, sent_along-moves}, Losses.AreRising-left}
-use Rattle.pair_history.proofs.{DropLaws.{DropsAreAskedOrFull-append, DropsAreAskedOrFull-guests}, FailureLaws.AreGuests-moves}
+use Rattle.pair_history.specs.Moves.{Move, Arrives, entry_of, entries_of, guest_along, frames_along, left, AllCan}
+use Rattle.pair_history.specs.laws.Histories.{at-append, Legal-append}
+use Rattle.frame_ports.specs.laws.Addresses.{targets_of-append}
+use Rattle.pair_history.specs.laws.Landings.{BoxesFit-empty}
+use Rattle.pair_history.specs.laws.Waiting.{Leaves, StandsAt, leaves-at}
+use Rattle.pair_history.specs.laws.Moves.{guest_along-append, frames_along-append, left-append, AllCan-append, AllCan-front, AllCan-back}
+use Rattle.pair_history.specs.laws.Moves.{moved}
+use Rattle.pair_history.specs.laws.Moves.{at-moves, Legal-moves, sent_along-moves}
+use Rattle.pair_history.specs.laws.Losses.{AreRising-left}
+use Rattle.pair_history.specs.laws.Drops.{DropsAreAskedOrFull-append, DropsAreAskedOrFull-guests}
+use Rattle.pair_history.specs.laws.Moves.{AreGuests-moves}
 use Rattle.pair_record.specs.internal.Accords.{all_moves, epoch_frames, frames_by_epoch, kept_moves, AreInboxes, AreClients}
 use Rattle.pair_record.specs.internal.Accords.{Accords}
 use Rattle.pair_journal.specs.Journal.{joined, first_of, rest_of, kept_entries, with_running}

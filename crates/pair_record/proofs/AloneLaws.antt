@@ -3,7 +3,7 @@ use Rattle.std.proofs.Common.{rules, ◌≡◌, ℕ, ◌+◌, ◌*◌, ◌≤◌
 use Rattle.std.specs.Prelude.{nat_le, min}
 use Rattle.frame_ports.specs.{Addresses.targets_of, Limits.number_limit}
 use Rattle.std.proofs.{Common.{append_assoc, mul-le-mul_right}, lemmas.{Bool.Decides.nat_tests, List.{length-append, append-nil}}}
-use Rattle.frame_ports.proofs.AddressLaws.{length-targets_of, targets_of-append}
+use Rattle.frame_ports.specs.laws.Addresses.{length-targets_of, targets_of-append}
 use Rattle.output_gate.specs.Epochs.{Epoch, epoch, frames_of, frames_to}
 use Rattle.pair_history.specs.Entries.{Frame, Entry}
 use Rattle.pair_record.specs.Protocol.{Record, all_held, failure_done}

@@ -3,9 +3,10 @@ use Rattle.std.proofs.Common.{◌≡◌, ℕ, ◌-◌, List, ◌++◌, length, s
 use Rattle.std.proofs.lemmas.List.{length-append, take_all}
 use Rattle.frame_ports.specs.Ports.{PortsState}
 use Rattle.output_gate.specs.{Epochs.frames_of, Landings.ports_after}
-use Rattle.output_gate.proofs.{LandedLaws.ports_after-old, PortsAfterLaws.ports_after-append}
+use Rattle.output_gate.specs.laws.Old.{ports_after-old}
+use Rattle.output_gate.specs.laws.Ports.{ports_after-append}
 use Rattle.pair_history.specs.{Entries.Frame, Landings.landings}
-use Rattle.pair_journal.proofs.LandedEntryLaws.{entries-append, entries-new, entries-old}
+use Rattle.pair_journal.specs.laws.Landed.{entries-append, entries-new, entries-old}
 use Rattle.pair_record.specs.Kept.{all_frames, entries_after, Brings, brought, brought_entries, ports_after_brought}
 use Rattle.pair_record.specs.{FailureActs.first_uncommitted, Record.{AreNumbered, first_held, owed_to, ports_after_live}}
 use Rattle.pair_record.specs.{Tables.Record, Window.committed_of}

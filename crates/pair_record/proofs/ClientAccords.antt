@@ -9,13 +9,20 @@ use Rattle.frame_ports.specs.Limits.{inbox_frames, box_frames}
 use Rattle.output_gate.specs.Epochs.{Epoch, frames_to, frames_of}
 use Rattle.pair_history.specs.Entries.{Frame, Entry, Delivered, Refused, DropIn, DropOut, Took}
 use Rattle.pair_history.specs.HistoryState.{HistoryState, Waiting, inbox_of, without_number, out_without, at, Legal, Allows}
-use Rattle.pair_history.specs.{Landings.{landings, DropsAreAskedOrFull, BoxesFit}, internal.Moves.{left, AllCan}}
-use Rattle.pair_history.proofs.{DropLaws.{DropsAreAskedOrFull-append, at_full-asked}, States.{at-append, Legal-append, targets_of-append}}
-use Rattle.pair_history.proofs.Waiting.{inbox_of-append, AreRising-push, AreRising-without, StandsAt, Leaves, leaves-at}
-use Rattle.pair_history.proofs.{Losses.{AreRising-left, LeavesBefore, leaves-before}, Moves.{AllCan-more, left-more, left-shorter}}
-use Rattle.pair_history.proofs.LandingLaws.{length-lands, BoxesFit-set, BoxesFit-at, BoxesFit-lands, AllClients-targets, landings-land}
+use Rattle.pair_history.specs.Landings.{landings, DropsAreAskedOrFull, BoxesFit}
+use Rattle.pair_history.specs.Moves.{left, AllCan}
+use Rattle.pair_history.specs.laws.Drops.{DropsAreAskedOrFull-append, at_full-asked}
+use Rattle.pair_history.specs.laws.Histories.{at-append, Legal-append}
+use Rattle.frame_ports.specs.laws.Addresses.{targets_of-append}
+use Rattle.pair_history.specs.laws.Waiting.{inbox_of-append, AreRising-push, AreRising-without, StandsAt, Leaves, leaves-at}
+use Rattle.pair_history.specs.laws.Losses.{AreRising-left, LeavesBefore, leaves-before}
+use Rattle.pair_history.specs.laws.Moves.{AllCan-more, left-more, left-shorter}
+use Rattle.frame_ports.specs.laws.Lands.{length-lands}
+use Rattle.pair_history.specs.laws.Landings.{BoxesFit-set, BoxesFit-at, BoxesFit-lands, AllClients-targets, landings-land}
 use Rattle.pair_history.specs.Leaving.{LeaveInOrder}
-use Rattle.pair_history.proofs.{LandingLaws.{AllLand, AllClients}, LeavingLaws.landings-leave}
+use Rattle.pair_history.specs.laws.Landings.{AllLand}
+use Rattle.pair_history.specs.Reached.{AllClients}
+use Rattle.pair_history.proofs.LeavingLaws.{landings-leave}
 use Rattle.pair_record.specs.declared.window.Window.{Window}
 use Rattle.pair_journal.specs.Journal.{with_history}
 use Rattle.pair_record.specs.internal.Accords.{epoch_frames, frames_by_epoch, AreClients, Accords}

@@ -8,11 +8,15 @@ use Rattle.failover.specs.declared.mode.Mode.{Mode}
 use Rattle.output_gate.specs.Epochs.{Epoch, frames_of}
 use Rattle.pair_history.specs.{Entries.{Frame, Entry}, HistoryState.{HistoryState, at, Legal}}
 use Rattle.pair_history.specs.Landings.{landings, DropsAreAskedOrFull, BoxesFit}
-use Rattle.pair_history.specs.internal.Moves.{Move, entry_of, entries_of, guest_along, frames_along, left, AllCan}
-use Rattle.pair_history.proofs.{States.{at-append, Legal-append}, Losses.AreRising-left, FailureLaws.AreGuests-moves}
-use Rattle.pair_history.proofs.DropLaws.{DropsAreAskedOrFull-append, DropsAreAskedOrFull-guests, at_full-asked}
-use Rattle.pair_history.proofs.Moves.{moved, at-moves, Legal-moves, AllCan-front, AllCan-back, left-append}
-use Rattle.pair_history.proofs.LandingLaws.{length-lands, BoxesFit-lands, AllClients-targets, landings-land, AllLand, AllClients}
+use Rattle.pair_history.specs.Moves.{Move, entry_of, entries_of, guest_along, frames_along, left, AllCan}
+use Rattle.pair_history.specs.laws.Histories.{at-append, Legal-append}
+use Rattle.pair_history.specs.laws.Losses.{AreRising-left}
+use Rattle.pair_history.specs.laws.Moves.{AreGuests-moves}
+use Rattle.pair_history.specs.laws.Drops.{DropsAreAskedOrFull-append, DropsAreAskedOrFull-guests, at_full-asked}
+use Rattle.pair_history.specs.laws.Moves.{moved, at-moves, Legal-moves, AllCan-front, AllCan-back, left-append}
+use Rattle.frame_ports.specs.laws.Lands.{length-lands}
+use Rattle.pair_history.specs.laws.Landings.{BoxesFit-lands, AllClients-targets, landings-land, AllLand}
+use Rattle.pair_history.specs.Reached.{AllClients}
 use Rattle.pair_record.specs.declared.window.Window.{Window}
 use Rattle.pair_journal.specs.Journal.{joined}
 use Rattle.pair_record.specs.Record.{ports_after_all}

@@ -1,8 +1,8 @@
 -- Laws of steps as moves, and of moves up to so many arrivals and those behind.
 use Rattle.std.proofs.Common.{◌≡◌, ℕ, zero, suc, List, [], ◌∷◌, ◌++◌, replicate, refl, ap}
 use Rattle.pair_history.specs.{Entries.{Ran, Arrive}, HistoryState.Waiting}
-use Rattle.pair_history.specs.internal.Moves.{Move, Steps, Arrives, entries_of, left, AllCan}
-pub use Rattle.pair_journal.proofs.EpochLaws.{kept-sealed, all-entered}
+use Rattle.pair_history.specs.Moves.{Move, Steps, Arrives, entries_of, left, AllCan}
+pub use Rattle.pair_journal.specs.laws.Epochs.{kept-sealed, all-entered}
 use Rattle.pair_record.specs.EpochActs.{up_to, behind}
 
 -- STEPS are moves

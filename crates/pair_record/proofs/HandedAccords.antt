@@ -4,8 +4,8 @@ use Rattle.std.proofs.lemmas.List.{map-append}
 use Rattle.frame_ports.specs.{Addresses.targets_of, Ports.PortsState}
 use Rattle.output_gate.specs.Epochs.{frames_of}
 use Rattle.pair_history.specs.{Entries.{Frame, Entry}, HistoryState.{HistoryState, sent_along}}
-use Rattle.pair_history.specs.internal.Moves.{Move, Steps, entry_of, entries_of, guest_along, frames_along, left, AllCan}
-use Rattle.pair_history.proofs.Moves.{moved, AllCan-append, AllCan-front, AllCan-back, left-append, sent_along-moves}
+use Rattle.pair_history.specs.Moves.{Move, Steps, entry_of, entries_of, guest_along, frames_along, left, AllCan}
+use Rattle.pair_history.specs.laws.Moves.{moved, AllCan-append, AllCan-front, AllCan-back, left-append, sent_along-moves}
 use Rattle.pair_record.specs.internal.Accords.{Accords}
 use Rattle.pair_journal.specs.Epochs.{behind, guest_epoch}
 use Rattle.pair_record.specs.EpochActs.{epoch_sent, seal_epoch_done, enter_epoch_done, fail_within_done}

@@ -1,7 +1,7 @@
 -- Lists of frames, epoch by epoch, and all their frames.
 use Rattle.std.proofs.Common.{◌≡◌, List, [], ◌∷◌, ◌++◌, refl, ap}
 use Rattle.output_gate.specs.Epochs.{Epoch, frames_of}
-pub use Rattle.pair_journal.proofs.LandedEntryLaws.{all_frames-append}
+pub use Rattle.pair_journal.specs.laws.Landed.{all_frames-append}
 use Rattle.pair_history.specs.Entries.{Frame}
 use Rattle.pair_record.specs.Kept.{all_frames, frames_by_epoch}
 

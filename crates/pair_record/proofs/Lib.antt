@@ -17,6 +17,3 @@ pub mod LiveAccords
 pub mod ProtectAccords
 pub mod KeptLists
 pub mod OwedLaws
--- what crates above cite of the journal's
-pub use Rattle.pair_journal.proofs.JournalLaws
-pub use Rattle.pair_journal.proofs.LengthLaws

@@ -4,10 +4,18 @@ use Rattle.frame_ports.specs.{Addresses.targets_of, Lands.lands, Ports.PortsStat
 use Rattle.output_gate.specs.Epochs.{Epoch, frames_of}
 use Rattle.pair_history.specs.{Entries.{Frame, Entry}, Failures.go_live_entries}
 use Rattle.pair_history.specs.{HistoryState.{HistoryState, at, Legal}, Landings.{BoxesFit, DropsAreAskedOrFull}}
-use Rattle.pair_history.specs.{internal.Moves.left, Order.AreGuests}
-use Rattle.pair_history.proofs.{DropLaws.{DropsAreAskedOrFull-append, go_live-asked}, FailureLaws.{goes_live, AreGuests-moves}}
-use Rattle.pair_history.proofs.LandingLaws.{AllClients, AllClients-targets, BoxesFit-lands, length-lands}
-use Rattle.pair_history.proofs.{Losses.AreRising-left, Moves.Legal-moves, States.{at-append, Legal-append}}
+use Rattle.pair_history.specs.Moves.{left}
+use Rattle.pair_history.specs.Order.{AreGuests}
+use Rattle.pair_history.specs.laws.Drops.{DropsAreAskedOrFull-append}
+use Rattle.pair_history.proofs.DropLaws.{go_live-asked}
+use Rattle.pair_history.proofs.FailureLaws.{goes_live}
+use Rattle.pair_history.specs.laws.Moves.{AreGuests-moves}
+use Rattle.pair_history.specs.Reached.{AllClients}
+use Rattle.pair_history.specs.laws.Landings.{AllClients-targets, BoxesFit-lands}
+use Rattle.frame_ports.specs.laws.Lands.{length-lands}
+use Rattle.pair_history.specs.laws.Losses.{AreRising-left}
+use Rattle.pair_history.specs.laws.Moves.{Legal-moves}
+use Rattle.pair_history.specs.laws.Histories.{at-append, Legal-append}
 use Rattle.pair_record.specs.internal.Accords.{AreClients, AreInboxes, Accords}
 use Rattle.pair_record.specs.Kept.{frames_by_epoch}
 use Rattle.pair_journal.specs.Journal.{kept_entries}

@@ -7,7 +7,7 @@ use Rattle.frame_ports.specs.Limits.{number_limit}
 use Rattle.output_gate.specs.Epochs.{Epoch, frames_of, frames_to}
 use Rattle.pair_history.specs.{Entries.Entry, Failures.{arrived_numbers, drops_of_taken_in}}
 use Rattle.pair_journal.specs.Journal.{Journal, kept_entries, with_history}
-use Rattle.pair_journal.proofs.ArrivedLaws.{length-drops}
+use Rattle.pair_journal.specs.laws.Joined.{length-drops}
 use Rattle.pair_record.specs.{declared.event.Refusal.TheVariants.Exhausted, declared.window.Window.Window}
 use Rattle.pair_record.specs.{FailureActs.{entries_with, live_refusals, live_done}, Protocol.{Record, first_refusal}}
 use Rattle.pair_record.specs.{Record.{IsRecord}, Window.{IsWindow, first_after, committed_count, committed_of}}

@@ -7,8 +7,9 @@ use Rattle.output_gate.specs.Epochs.{Epoch, frames_of}
 use Rattle.guest_machine.specs.Step.{sent}
 use Rattle.pair_history.specs.{Entries.{Frame, Entry, Ran, Arrive}, HistoryState.{HistoryState, after, at}}
 use Rattle.pair_history.specs.Landings.{landings, DropsAtFull, BoxesFit}
-use Rattle.pair_history.specs.internal.Moves.{Move, Steps, Arrives, entries_of, guest_along, frames_along, left, AllCan}
-use Rattle.pair_history.proofs.{States.at-append, LandingLaws.{AllClients-targets, landings-land, AllLand}}
+use Rattle.pair_history.specs.Moves.{Move, Steps, Arrives, entries_of, guest_along, frames_along, left, AllCan}
+use Rattle.pair_history.specs.laws.Histories.{at-append}
+use Rattle.pair_history.specs.laws.Landings.{AllClients-targets, landings-land, AllLand}
 use Rattle.pair_record.specs.{declared.window.Window.Window, internal.Accords.Accords}
 use Rattle.pair_journal.specs.Journal.{joined, kept_entries, all_entries}
 use Rattle.pair_record.specs.Protocol.{Record, shown_at, live_at, all_held, outbox_of, step_entries, cut_done, landed_after}

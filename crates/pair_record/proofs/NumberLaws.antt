@@ -10,7 +10,8 @@ use Rattle.frame_ports.specs.{Addresses.targets_of, Limits.number_limit}
 use Rattle.output_gate.specs.Epochs.{Epoch, epoch as epoch_of, frames_of, frames_to, after_number}
 use Rattle.output_gate.specs.Landings.{clients_for, landed_for, ports_after, landed_count, AreBelow}
 use Rattle.output_gate.specs.Gate.{GateState, first_held as gate_first}
-use Rattle.output_gate.proofs.{LandedLaws.{boxes-after, landed_count-new}, PortsAfterLaws.rest_same-after}
+use Rattle.output_gate.specs.laws.New.{boxes-after, landed_count-new}
+use Rattle.output_gate.specs.laws.Ports.{rest_same-after}
 use Rattle.pair_history.specs.Entries.{Frame, Entry}
 use Rattle.pair_record.specs.{declared.event.Refusal.Refusal, declared.event.Refusal.TheVariants.{Behind, Exhausted}}
 use Rattle.pair_journal.specs.Journal.{Journal}

@@ -5,7 +5,8 @@ use Rattle.std.proofs.lemmas.List.{append-nil, drop-append-le, length-append, le
 use Rattle.frame_ports.specs.Ports.{PortsState}
 use Rattle.output_gate.specs.Epochs.{Epoch, frames_of, frames_to}
 use Rattle.output_gate.specs.Landings.{ports_after, AreOld, HaveRisen}
-use Rattle.output_gate.proofs.{KeptLaws.risen-same, LandedLaws.{old-after, old-append, old-back, old-risen}, PortsAfterLaws.risen-after}
+use Rattle.output_gate.specs.laws.Ports.{risen-same, risen-after}
+use Rattle.output_gate.specs.laws.Old.{old-after, old-append, old-back, old-risen}
 use Rattle.pair_history.specs.Entries.{Frame, Entry}
 use Rattle.pair_record.specs.{Kept.{all_frames, frames_by_epoch, Brings}, FailureActs.first_uncommitted}
 use Rattle.pair_record.specs.Protocol.{Record, seal_done, commit_done, ack_done}

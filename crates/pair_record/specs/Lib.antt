@@ -14,6 +14,7 @@ pub mod Limits
 pub mod Refusals
 -- what public clauses cite of lower crates
 pub use Rattle.pair_journal.specs.Journal
+pub use Rattle.pair_journal.specs.laws.Joined
 pub use Rattle.pair_history.specs.Entries
 pub use Rattle.pair_history.specs.HistoryState
 pub use Rattle.failover.specs.Changes

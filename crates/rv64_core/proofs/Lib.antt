@@ -1,4 +1,3 @@
-pub mod Aligned
 pub mod Fitting
 pub mod Found
 pub mod Often

@@ -1,3 +1,4 @@
+pub mod laws
 pub mod Deeds
 pub mod Examples
 pub mod Encoding

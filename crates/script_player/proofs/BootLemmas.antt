@@ -2,8 +2,10 @@
 use Rattle.std.proofs.Common.{◌≡◌, ◌≤◌, ℕ, Bool, true, false, cond, List, ◌∷◌, ◌++◌, Some, None, refl, sym, ap, subst, arith, ◌∙◌, codes}
 use Rattle.script_player.specs.Limits.{most_pages, most_sectors, most_clients}
 use Rattle.script_player.specs.{Fields.{text_after, operand_of}, Guests.{IsGuest, NamedGuest}, Boot.{IsBoot, BootLine, IsInLimits}}
-use Rattle.script_player.{specs.internal.Head.{in_limits, head_of}, proofs.FieldLemmas.{text_after-some, operand_of-spelled}}
-use Rattle.script_player.proofs.{FieldLemmas.operand_of-read, OptionLemmas.{some_same, and_then_some}}
+use Rattle.script_player.specs.internal.Head.{in_limits, head_of}
+use Rattle.script_player.specs.laws.Fields.{text_after-some, operand_of-spelled}
+use Rattle.script_player.specs.laws.Fields.{operand_of-read}
+use Rattle.script_player.specs.laws.Options.{some_same, and_then_some}
 
 -- what a head gives: pages, sectors, clients, and the guest's text
 abbrev pub Found : Type 0

@@ -5,7 +5,8 @@ use Rattle.pair_record.specs.declared.event.Event.{Event, TheVariants.{Step, Cut
 use Rattle.pair_record.specs.declared.event.Event.TheVariants.{LoseIn, LoseOut, FailPrimary, FailBackup, GoLive, Protect}
 use Rattle.script_player.specs.{Fields.numbered_by, Command.{IsNumbered, IsEvent, IsCommand, word_event, numbered_event, command_of}}
 use Rattle.script_player.specs.declared.script.Command.{Command, TheVariants.{Asks, Steps, Sector, Show}}
-use Rattle.script_player.proofs.{FieldLemmas.operand_of-spelled, FormLemmas.{Read, same, word, told, one, two, is_numbered, read-spelled}}
+use Rattle.script_player.specs.laws.Fields.{operand_of-spelled}
+use Rattle.script_player.specs.laws.Forms.{Read, same, word, told, one, two, is_numbered, read-spelled}
 
 -- what is spelled so is read so
 pub command_of-spelled : (text : List ℕ) (command : Command) → IsCommand text command → command_of text ≡ Some command

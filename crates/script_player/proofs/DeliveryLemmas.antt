@@ -6,8 +6,10 @@ use Rattle.std.specs.{Char.{is_ascii_hexdigit, is_ascii_uppercase}, List.{list_a
 use Rattle.hex.specs.Hex.{decode_of, encode_lower, encode_with, lower_digits, is_hex_digit, IsBytes}
 use Rattle.hex.proofs.HexLemmas.{decode_of-digits, decode_of-encode_lower, decode_of-ok, decode_of-same, length-encode_with}
 use Rattle.script_player.specs.internal.Digits.{is_lower_digit}
-use Rattle.script_player.proofs.{DigitLemmas.{lower-again, none_in_upper_case}, FieldLemmas.{text_after-some, operand_of-spelled}}
-use Rattle.script_player.proofs.{FieldLemmas.operand_of-read, OptionLemmas.{and_then_some, some_same, pair_parts}}
+use Rattle.script_player.proofs.DigitLemmas.{lower-again, none_in_upper_case}
+use Rattle.script_player.specs.laws.Fields.{text_after-some, operand_of-spelled}
+use Rattle.script_player.specs.laws.Fields.{operand_of-read}
+use Rattle.script_player.specs.laws.Options.{and_then_some, some_same, pair_parts}
 use Rattle.script_player.specs.{Fields.{text_after, operand_of}, Delivery.{IsHex, IsDelivery, delivery_head}}
 
 -- what is read is spelled so

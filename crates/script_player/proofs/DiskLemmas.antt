@@ -1,8 +1,11 @@
 -- The guest that fills a sector is read from the left, and has one reading.
 use Rattle.std.proofs.Common.{◌≡◌, ℕ, zero, suc, List, [], ◌∷◌, ◌++◌, length, slice_index_or, Some, refl, sym, ap, arith, ◌∙◌, codes}
 use Rattle.hex.specs.Hex.{encode_lower, IsBytes}
-use Rattle.script_player.{specs.{Fields.{text_after, operand_of}, Guests.IsDisk}, proofs.FieldLemmas.{text_after-some, operand_of-spelled}}
-use Rattle.script_player.proofs.{FieldLemmas.operand_of-read, OptionLemmas.{some_same, pair_parts}}
+use Rattle.script_player.specs.Fields.{text_after, operand_of}
+use Rattle.script_player.specs.Guests.{IsDisk}
+use Rattle.script_player.specs.laws.Fields.{text_after-some, operand_of-spelled}
+use Rattle.script_player.specs.laws.Fields.{operand_of-read}
+use Rattle.script_player.specs.laws.Options.{some_same, pair_parts}
 
 -- what stands after the name of a guest that is spelled so
 pub disk_operand : (text rest : List ℕ) (sector byte : ℕ) → text_after (codes "disk ") text ≡ Some rest → (h : IsDisk text sector byte)

@@ -1,30 +1,19 @@
 -- What stands after a front, and the number that digits write.
-use Rattle.std.proofs.Common.{◌≡◌, ◌≢◌, ◌<◌, ◌≤◌, ◌^◌, ℕ, zero, suc, Bool, true, false, cond, List, [], ◌∷◌, ◌++◌, length, Option, Some}
-use Rattle.std.proofs.Common.{None, MatchOption, Bor, take, drop, add-one, ◌+◌, ◌-◌, Result, Ok, Err, refl, sym, ap, arith, subst, ◌==◌}
-use Rattle.std.proofs.{Common.{◌&&◌, nat_eq, nat_lt, get_or, ◌∙◌}, lemmas.List.{take_rest, Quantifiers.position-Some}}
+use Rattle.std.proofs.Common.{◌≡◌, ◌≢◌, ◌<◌, ◌≤◌, ◌^◌, ℕ, zero, suc, Bool, true, false, List, [], ◌∷◌, ◌++◌, length, Option, Some}
+use Rattle.std.proofs.Common.{None, MatchOption, Bor, take, drop, add-one, ◌+◌, ◌-◌, Result, Ok, Err, refl, sym, ap, arith, ◌==◌}
+use Rattle.std.proofs.Common.{nat_eq, nat_lt, get_or, ◌∙◌}
+use Rattle.std.proofs.lemmas.List.{take_rest}
+use Rattle.std.proofs.lemmas.List.Quantifiers.{position-Some}
 use Rattle.std.proofs.lemmas.{List.Sums.fails_before_first, Grind.common_steps, Str.{IsUtf8-from_ascii, Parse.IsNumeralModel}}
 use Rattle.std.proofs.lemmas.Str.{Parse.{numerals_by_value, tells_all_ascii_digits, parse_plain}, Ascii.{IsAscii-nil, IsAscii-cons}}
-use Rattle.std.{proofs.lemmas.Bool.{and_parts, and_from, false_from_ne_true}, specs.{Result.{OkIff, result_ok}, Option.option_map}}
-use Rattle.std.specs.{Option.option_and_then, List.{position, position_or_len}, Cmp.Lexicographic.pointwise, Str.all_ascii_digits}
+use Rattle.std.proofs.lemmas.Bool.{and_parts, and_from, false_from_ne_true}
+use Rattle.std.specs.Result.{OkIff, result_ok}
+use Rattle.std.specs.List.{position, position_or_len}
+use Rattle.std.specs.Cmp.Lexicographic.{pointwise}
+use Rattle.std.specs.Str.{all_ascii_digits}
 use Rattle.std.specs.{Str.{IsAscii, IsUtf8, Parse.{digits_value, ParsesUnsigned}}, Char.is_ascii_digit}
-use Rattle.script_player.{specs.Fields.{text_after, number_of, number_in, operand_of, parted}, proofs.OptionLemmas.{some_same, pair_parts}}
-use Rattle.script_player.proofs.OptionLemmas.{and_then_some, map_some}
-
--- a front is found again
-pub text_after-append : (front rest : List ℕ) → text_after front (front ++ rest) ≡ Some rest
-text_after-append [] rest = refl
-text_after-append (f ∷ front) rest = let same : (f == f) ≡ true = grind arith in rw same (text_after-append front rest)
-
--- what has something after a front begins with it
-pub text_after-some : (front text rest : List ℕ) → text_after front text ≡ Some rest → text ≡ front ++ rest
-text_after-some [] text rest h = cc
-text_after-some (f ∷ front) [] rest h = cc
-text_after-some (f ∷ front) (c ∷ text) rest h = by-test (f == c) refl (text_after-some front text rest) h
-  where
-    by-test : (b : Bool) → (f == c) ≡ b → (text_after front text ≡ Some rest → text ≡ front ++ rest)
-        → cond b (text_after front text) None ≡ Some rest → (c ∷ text) ≡ (f ∷ front) ++ rest
-    by-test true e again h = let same : f ≡ c = grind arith in let tail : text ≡ front ++ rest = again h in cc
-    by-test false e again h = cc
+use Rattle.script_player.specs.Fields.{text_after, number_of, parted}
+use Rattle.script_player.specs.laws.Fields.{text_after-append, text_after-some, writes, Writes, writes_to}
 
 none_after : (front text : List ℕ) → ((rest : List ℕ) → text ≢ front ++ rest) → (o : Option (List ℕ)) → text_after front text ≡ o → o ≡ None
 none_after front text apart None e = refl
@@ -46,19 +35,6 @@ digits_are_ascii : (text : List ℕ) → all_ascii_digits text ≡ true → IsAs
 digits_are_ascii [] h = IsAscii-nil
 digits_are_ascii (c ∷ cs) h = let both = and_parts (is_ascii_digit c) (all_ascii_digits cs) h in
     let low : c < 128 = grind (arith, both.0) in IsAscii-cons c cs low (digits_are_ascii cs both.1)
-
--- the test of `number_of`
-abbrev writes : List ℕ → Bool
-writes text = nat_lt 0 (length text) && all_ascii_digits text && nat_lt (digits_value 10 text) (2 ^ 64)
-
-abbrev Writes : List ℕ → Type 0
-Writes text = (all_ascii_digits text ≡ true) × (0 < length text) × (digits_value 10 text < 2 ^ 64)
-
-writes_to : (text : List ℕ) → writes text ≡ true → Writes text
-writes_to text h =
-    let last = and_parts (nat_lt 0 (length text) && all_ascii_digits text) (nat_lt (digits_value 10 text) (2 ^ 64)) h in
-    let front = and_parts (nat_lt 0 (length text)) (all_ascii_digits text) last.0 in
-    (front.1, grind (arith, front.0), grind (arith, last.1))
 
 no_number : (text : List ℕ) → ¬ (Writes text) → number_of text ≡ None
 no_number text apart = rw (false_from_ne_true (writes text) (λ h. apart (writes_to text h))) refl
@@ -86,24 +62,6 @@ number-parsed text parsed h plus = number_read text parsed (parse_plain own 64 t
     no_plus (c ∷ cs) h e = grind arith
 
 -- ---- the text before and after the first space
-
-abbrev Parts : Type 0
-Parts = List ℕ × List ℕ
-
--- a text that is parted is its parts with a space between them
-pub parted-shape : (text : List ℕ) (parts : Parts) → parted text ≡ Some parts → text ≡ parts.0 ++ 32 ∷ parts.1
-parted-shape [] parts h = cc
-parted-shape (c ∷ text) parts h = by-test (c == 32) refl (parted-shape text) h
-  where
-    by-test : (b : Bool) → (c == 32) ≡ b → ((p : Parts) → parted text ≡ Some p → text ≡ p.0 ++ 32 ∷ p.1)
-        → cond {A = Option Parts} b (Some ([], text)) (option_map (λ p. (c ∷ p.0, p.1)) (parted text)) ≡ Some parts
-        → (c ∷ text) ≡ parts.0 ++ 32 ∷ parts.1
-    by-test true e again h =
-        let space : c ≡ 32 = grind arith in
-        subst (λ (p : Parts). (c ∷ text) ≡ p.0 ++ 32 ∷ p.1) (some_same h) (ap (λ d. d ∷ text) space)
-    by-test false e again h =
-        let more = map_some {B = Parts} (λ p. (c ∷ p.0, p.1)) (parted text) parts h in
-        subst (λ (p : Parts). (c ∷ text) ≡ p.0 ++ 32 ∷ p.1) more.2 (ap (λ t. c ∷ t) (again more.0 more.1))
 
 abbrev is_space : ℕ → Bool
 is_space c = c == 32
@@ -134,31 +92,3 @@ pub parted-some : (text : List ℕ) (i : ℕ) → position is_space text ≡ Som
 parted-some text i h =
     let found = position-Some is_space text i 0 h in
     space-at text i found.0 found.1 found.2 ∙ sym (rw (take_rest text (i + 1), add-one) refl)
-
--- digits are parted from what stands after a space
-pub parted-digits : (digits rest : List ℕ) → all_ascii_digits digits ≡ true → parted (digits ++ 32 ∷ rest) ≡ Some (digits, rest)
-parted-digits [] rest h = refl
-parted-digits (d ∷ digits) rest h =
-    let both = and_parts (is_ascii_digit d) (all_ascii_digits digits) h in
-    let apart : (d == 32) ≡ false = grind (arith, both.0) in
-    rw (apart, parted-digits digits rest both.1) refl
-
-digits_written : (text : List ℕ) (n : ℕ) (b : Bool) → writes text ≡ b → cond b (Some (digits_value 10 text)) None ≡ Some n
-    → all_ascii_digits text ≡ true
-digits_written text n true e h = (writes_to text e).0
-digits_written text n false e h = cc
-
--- a number at the front, after it a space, is found again
-pub operand_of-spelled : (digits rest : List ℕ) (n : ℕ) → number_of digits ≡ Some n → operand_of (digits ++ 32 ∷ rest) ≡ Some (n, rest)
-operand_of-spelled digits rest n h =
-    ap (option_and_then number_in) (parted-digits digits rest (digits_written digits n (writes digits) refl h))
-    ∙ ap (option_map {U = ℕ × List ℕ} (λ m. (m, rest))) h
-
--- what is read at the front is a number, and a space stands after it
-pub operand_of-read : (text : List ℕ) (n : ℕ) (rest : List ℕ) → operand_of text ≡ Some (n, rest)
-    → (digits : List ℕ) × (text ≡ digits ++ 32 ∷ rest) × (number_of digits ≡ Some n)
-operand_of-read text n rest h =
-    let parts = and_then_some number_in (parted text) (n, rest) h in
-    let number = map_some {B = ℕ × List ℕ} (λ m. (m, parts.0.1)) (number_of parts.0.0) (n, rest) parts.2 in
-    let both = pair_parts number.2 in
-    (parts.0.0, parted-shape text parts.0 parts.1 ∙ ap (λ t. parts.0.0 ++ 32 ∷ t) both.1, number.1 ∙ ap Some both.0)

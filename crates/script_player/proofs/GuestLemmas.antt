@@ -1,7 +1,9 @@
 -- The guest whose words a text spells.
 use Rattle.std.proofs.Common.{◌≡◌, ◌<◌, ◌≤◌, ◌*◌, ℕ, List, length, Some, sym, ap, arith, ◌∙◌, codes}
 use Rattle.script_player.specs.{Fields.text_after, Guests.{IsGuest, IsWords, NamedGuest, beacon, disk, idle, words}}
-use Rattle.script_player.proofs.{FieldLemmas.text_after-some, OptionLemmas.some_same, WordsLemmas.words-long}
+use Rattle.script_player.specs.laws.Fields.{text_after-some}
+use Rattle.script_player.specs.laws.Options.{some_same}
+use Rattle.script_player.proofs.WordsLemmas.{words-long}
 
 -- a text that names words, and how many they are
 module _ (pages count : ℕ) (text fields : List ℕ) (front : text_after (codes "words") text ≡ Some fields)

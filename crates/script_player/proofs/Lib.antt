@@ -1,8 +1,6 @@
-pub mod OptionLemmas
 mod ListLemmas
 pub mod TextLemmas
 pub mod FieldLemmas
-pub mod FormLemmas
 pub mod CommandLemmas
 pub mod WordsLemmas
 mod GuestLemmas

@@ -5,7 +5,9 @@ use Rattle.std.specs.Io.KnownBytes.{Appends}
 use Rattle.script_player.specs.{StreamLines.{checkpoint_line, malformed_line}, StreamMeaning.{FileEnd, complete, IsListed, whole, cut_short}}
 use Rattle.script_player.specs.{StreamMeaning.{inside, stopped, end_line, end_status, next_after, Lists, IsListing}}
 use Rattle.script_player.specs.Listing.{IsNext, IsLast, IsFound, IsListedTo, is_complete, listed_status}
-use Rattle.script_player.{specs.Streams.{Writing, Writes, WritesFront}, proofs.ScriptLemmas.{front-after, front-still, front-again, written}}
+use Rattle.script_player.specs.Streams.{Writing, Writes, WritesFront}
+use Rattle.script_player.specs.laws.Written.{front-after}
+use Rattle.script_player.proofs.ScriptLemmas.{front-still, front-again, written}
 use Rattle.memory_wanted.specs.Wanted.{wanted}
 use Rattle.checkpoint_stream.specs.{Answers.Answers, declared.errors.StreamError.TheVariants.{Malformed, NoMemory}}
 use Rattle.checkpoint_stream.specs.{declared.place.Place.{Place, TheVariants.{Whole, Failed}}, Readings.{Reading, fed, taken, is_closed}}

@@ -10,7 +10,10 @@ use Rattle.pair_record.specs.declared.event.Refusal.TheVariants.{Stopped, Behind
 use Rattle.pair_record.specs.declared.event.{Refusal.TheVariants.{CutNeeded, Exhausted, OldVersion}, Reply.{Reply, TheVariants.Steps}}
 use Rattle.pair_record.specs.declared.event.Reply.TheVariants.{Cut, Sent, Committed, Again, Lost, Acked, Admitted, Empty, Delivered, Took}
 use Rattle.pair_record.specs.declared.event.Reply.TheVariants.{Dropped, Alone, Live, Protecting, Refused, Stopped as HasStopped}
-use Rattle.script_player.{specs.{Fields.text_after, Printed.{reply_line, IsPlain}}, proofs.{FieldLemmas.own, OptionLemmas.some_same}}
+use Rattle.script_player.specs.Fields.{text_after}
+use Rattle.script_player.specs.Printed.{reply_line, IsPlain}
+use Rattle.script_player.proofs.FieldLemmas.{own}
+use Rattle.script_player.specs.laws.Options.{some_same}
 
 -- ---- a number, and the byte that ends it
 

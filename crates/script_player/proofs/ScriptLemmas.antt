@@ -6,9 +6,10 @@ use Rattle.script_player.specs.{Streams.{Writing, Writes, WritesFront, IsPut, Is
 use Rattle.script_player.specs.Meaning.{Stage, unbooted, Ending, finished, bad, refused, Means, lines_of, GoesOn, ends, goes_on, ends_badly}
 use Rattle.script_player.specs.{Meaning.{ends_refused, IsCut, IsPlayed, whole, cut_short}, internal.Playing.{lines_left, most_lines}}
 use Rattle.script_player.{specs.internal.Playing.{HasMeant, IsEnded, IsPlayedTo, IsStep, stop_of}, proofs.LineLemmas.texts}
-use Rattle.script_player.proofs.OptionLemmas.{failed, some_same}
+use Rattle.script_player.specs.laws.Options.{failed, some_same}
 use Rattle.script_player.specs.declared.sim.Stop.TheVariants as stops
 use Rattle.script_player.specs.declared.player.Turn.TheVariants as turns
+use Rattle.script_player.specs.laws.Written.{front-after}
 
 -- the lines that are left once the first was read
 pub after-first : (text line : List ℕ) (r : Option (Bor (List ℕ)))
@@ -30,21 +31,9 @@ fewer left text (Some rest) is h = rw is (omega arith)
 -- ---- what is written
 
 module _ (o m o' : Writing) (text : List ℕ) (all : Appends o.bytes m.bytes text) where
-  -- more was printed, of which the first was written
-  pub front-after : (more : List ℕ) → WritesFront m o' more → WritesFront o o' (text ++ more)
-  front-after more w = record {
-    front = (
-      text ++ w.front.0,
-      w.front.1,
-      ap (λ l. text ++ l) w.front.2 ∙ sym (append_assoc text w.front.0 w.front.1),
-      Appends-trans o.bytes m.bytes o'.bytes text w.front.0 all w.front.3,
-    );
-    badly = w.badly;
-  }
-
   -- nothing more was printed
   pub front-still : WritesFront m o' [] → WritesFront o o' text
-  front-still w = rw append-nil at (front-after [] w)
+  front-still w = rw append-nil at (front-after o m o' text all [] w)
 
   pub all-still : Appends m.bytes o'.bytes [] → Appends o.bytes o'.bytes text
   all-still a = rw append-nil at (Appends-trans o.bytes m.bytes o'.bytes text [] all a)

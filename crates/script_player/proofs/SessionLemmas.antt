@@ -7,7 +7,9 @@ use Rattle.script_player.specs.Session.{Replies, IsServed, ended, unread, unwrit
 use Rattle.script_player.specs.{declared.session.OpenLine.OpenLine, Meaning.lines_of}
 use Rattle.script_player.specs.internal.{Playing.lines_left, Serving.{HasAnswered, IsCutShort, Holds, IsAnswerTo, status_of}}
 use Rattle.script_player.{specs.Streams.{Reading, Writing, WritesFront, IsPut}, proofs.LineLemmas.texts}
-use Rattle.script_player.proofs.{LineLemmas.{first-unbroken, joined, alone, split-more}, ScriptLemmas.{after-first, front-after}}
+use Rattle.script_player.proofs.LineLemmas.{first-unbroken, joined, alone, split-more}
+use Rattle.script_player.proofs.ScriptLemmas.{after-first}
+use Rattle.script_player.specs.laws.Written.{front-after}
 
 -- what is left of a piece, behind an open line
 abbrev pub lines_behind : List ℕ → Option (List ℕ) → List (List ℕ)

@@ -4,7 +4,9 @@ use Rattle.std.proofs.{Common.{ap, arith, ◌∙◌, append_assoc, append-nil, t
 use Rattle.std.{proofs.lemmas.{Grind.flat_map-append, List.nil_from_length}, specs.{List.{flat_map, AllByRecursion}, Int.to_be_bytes}}
 use Rattle.std.specs.Int.{w32}
 use Rattle.hex.{specs.Hex.lower_digits, proofs.HexLemmas.length-encode_with}
-use Rattle.script_player.{specs.Guests.{word_field, IsWords}, proofs.{ListLemmas.all-push, OptionLemmas.{some_same, pair_parts}}}
+use Rattle.script_player.specs.Guests.{word_field, IsWords}
+use Rattle.script_player.proofs.ListLemmas.{all-push}
+use Rattle.script_player.specs.laws.Options.{some_same, pair_parts}
 
 -- a word of 32 bits
 abbrev pub IsWord : ℕ → Type 0

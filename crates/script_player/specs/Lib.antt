@@ -1,4 +1,5 @@
 pub mod internal
+pub mod laws
 pub mod Fields
 pub mod Command
 pub mod Guests

@@ -24,7 +24,7 @@ use Rattle.virtqueue.specs.declared.broken.Broken.{Broken}
 use Rattle.virtqueue.specs.declared.rings.Queue.{Queue}
 use Rattle.virtqueue.specs.Areas.{available_of, AreasFit, IsSized}
 use Rattle.virtqueue.specs.Chains.{Spelled}
-use Rattle.virtqueue.proofs.Lengths.{length_used_written, areas_available}
+use Rattle.virtqueue.specs.laws.Lengths.{length_used_written, areas_available}
 use Rattle.virtio_mmio.specs.declared.kinds.DeviceKind.{DeviceKind}
 use Rattle.virtio_mmio.specs.declared.states.DeviceState.{DeviceState}
 use Rattle.virtio_mmio.specs.Registers.{has_queue}

@@ -35,7 +35,7 @@ use Rattle.std.proofs.lemmas.List.{drop-append-le, take_all, length-take-le, dro
 use Rattle.virtqueue.specs.declared.chains.Descriptor.{Descriptor}
 use Rattle.virtqueue.specs.Chains.{buffer_inside, BuffersInside}
 use Rattle.virtqueue.specs.Parts.{bytes_of, readable_bytes}
-use Rattle.virtqueue.proofs.Lengths.{length_bytes_of}
+use Rattle.virtqueue.specs.laws.Lengths.{length_bytes_of}
 
 -- ---- lists
 

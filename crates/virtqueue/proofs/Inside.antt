@@ -41,11 +41,7 @@ use Rattle.virtqueue.specs.Chains.{
   descriptor_of,
   BuffersInside,
 }
-
--- a good answer of two steps comes from good answers of both
-pub bind_ok : {A B : Type 0} (r : Result A Broken) (f : A → Result B Broken) (y : B) → r >>= f ≡ Ok y → (x : A) × (r ≡ Ok x) × (f x ≡ Ok y)
-bind_ok (Ok x) f y h = (x, refl, h)
-bind_ok (Err b) f y h = let none : ⊥ = cc in absurd none
+use Rattle.virtqueue.specs.laws.Parts.{bind_ok}
 
 chosen : {A : Type 0} (b : Bool) (x y z : A) → (if b then x else y) ≡ z → ((b ≡ true) × (x ≡ z)) ⊎ ((b ≡ false) × (y ≡ z))
 chosen true x y z h = inl (refl, h)

@@ -46,12 +46,9 @@ use Rattle.virtqueue.specs.Memory.{place_of, is_inside, written}
 use Rattle.virtqueue.specs.Chains.{buffer_inside}
 use Rattle.virtqueue.specs.Parts.{writable_places, put_at}
 use Rattle.virtqueue.proofs.Gathered.{drop_past}
+use Rattle.virtqueue.specs.laws.Parts.{put_none}
 
 -- ---- bytes put one by one
-
-pub put_none : (bytes ps : List ℕ) → put_at bytes ps [] ≡ bytes
-put_none bytes [] = refl
-put_none bytes (p ∷ ps) = refl
 
 written_none : (bytes : List ℕ) (p : ℕ) → written bytes p [] ≡ bytes
 written_none bytes p = ap (λ xs. xs ++ drop (p + 0) bytes) (append-nil (take p bytes))

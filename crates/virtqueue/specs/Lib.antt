@@ -1,3 +1,4 @@
+pub mod laws
 pub mod Limits
 pub mod Queues
 pub mod Memory

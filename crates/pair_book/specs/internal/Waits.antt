@@ -3,7 +3,7 @@ use Rattle.std.specs.Prelude.{◌≡◌, length}
 use Rattle.frame_ports.specs.Ports.{PortsState}
 use Rattle.pair_history.specs.Failures.{arrived_numbers}
 use Rattle.pair_history.specs.Reached.{AreRising}
-use Rattle.pair_history.specs.internal.Waits.{AllWait}
+use Rattle.pair_history.specs.Waits.{AllWait}
 use Rattle.pair_record.specs.internal.Accords.{AreInboxes}
 use Rattle.growing_history.specs.LogState.{LogState, under_way}
 pub use Rattle.pair_book.specs.Books.{waits_at_last}

@@ -9,7 +9,8 @@ use Rattle.output_gate.specs.Epochs.{frames_of}
 use Rattle.pair_history.specs.Entries.{Frame}
 use Rattle.pair_history.specs.HistoryState.{HistoryState, Waiting, inbox_of, at, Legal}
 use Rattle.pair_history.specs.Landings.{DropsAreAskedOrFull, BoxesFit}
-use Rattle.pair_history.specs.internal.Moves.{Move, entries_of, guest_along, frames_along, left, AllCan, AreRising}
+use Rattle.pair_history.specs.Moves.{Move, entries_of, guest_along, frames_along, left, AllCan}
+use Rattle.pair_history.specs.Reached.{AreRising}
 use Rattle.pair_journal.specs.Journal.{Journal}
 pub use Rattle.pair_record.specs.Kept.{frames_by_epoch}
 use Rattle.pair_record.specs.Protocol.{Record, shown_at}

@@ -2,7 +2,7 @@
 use Rattle.std.proofs.{Common.{◌≡◌, ℕ, List, ◌++◌, length, take, drop, sym, ap, ◌∙◌, arith}, lemmas.List.take-append-drop}
 use Rattle.epoch_snapshot.specs.declared.changes.PageChange.{PageChange}
 use Rattle.backup_image.proofs.{RisingLemmas.rising-below, PutLemmas.{pages-begin, pages-put, pages-done}}
-use Rattle.checkpoint_stream.proofs.Spelling.{block_count-drop}
+use Rattle.epoch_snapshot.specs.laws.Blocks.{block_count-drop}
 use Rattle.backup_image.proofs.apply.put_pages.Goals as goal
 
 none : PageChange

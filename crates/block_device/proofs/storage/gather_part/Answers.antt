@@ -1,5 +1,6 @@
 use Rattle.std.proofs.Common.{ℕ, arith, length-drop, drop}
-use Rattle.virtqueue.{specs.Parts.readable_bytes, proofs.Lengths.length_readable}
+use Rattle.virtqueue.specs.Parts.{readable_bytes}
+use Rattle.virtqueue.specs.laws.Lengths.{length_readable}
 use Rattle.block_device.proofs.Parts.{put_written}
 use Rattle.block_device.proofs.storage.gather_part.Goals as goal
 

@@ -1,6 +1,7 @@
 use Rattle.std.proofs.{Common.arith, lemmas.List.Elements.All-more}
 use Rattle.epoch_snapshot.specs.declared.changes.PageChange.{PageChange}
-use Rattle.checkpoint_stream.proofs.Spelling.{advance, finish, page_units-split, page_units-done, block_count-drop, all-seen}
+use Rattle.checkpoint_stream.proofs.Spelling.{advance, finish, page_units-split, page_units-done, all-seen}
+use Rattle.epoch_snapshot.specs.laws.Blocks.{block_count-drop}
 use Rattle.checkpoint_stream.proofs.RecordsRead.{FitsMask}
 use Rattle.checkpoint_stream.proofs.encoding.put_pages.Goals as goal
 

@@ -1,4 +1,4 @@
-use Rattle.checkpoint_stream.proofs.Feeding.{fed-append}
+use Rattle.checkpoint_stream.specs.laws.Feeding.{fed-append}
 use Rattle.checkpoint_stream.proofs.laws.any_pieces.Goals as goal
 
 pub returns : goal.returns

@@ -1,4 +1,4 @@
-use Rattle.checkpoint_stream.proofs.Feeding.{fed-closed, taken-closed}
+use Rattle.checkpoint_stream.specs.laws.Feeding.{fed-closed, taken-closed}
 use Rattle.checkpoint_stream.proofs.laws.closed_takes_nothing.Goals as goal
 
 pub returns : goal.returns

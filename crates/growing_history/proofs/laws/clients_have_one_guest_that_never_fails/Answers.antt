@@ -1,5 +1,5 @@
 use Rattle.growing_history.specs.LogState.{history_of}
-use Rattle.growing_history.proofs.LogLaws.{history-begins}
+use Rattle.growing_history.specs.laws.Logs.{history-begins}
 use Rattle.growing_history.proofs.OwnEntries.{history-own}
 use Rattle.growing_history.proofs.ServiceLaws.{history-legal, answered-there, landed-sent}
 use Rattle.growing_history.proofs.laws.clients_have_one_guest_that_never_fails.Goals as goal

@@ -1,4 +1,4 @@
-use Rattle.growing_history.proofs.LogLaws.{live-rise}
+use Rattle.growing_history.specs.laws.Logs.{live-rise}
 use Rattle.growing_history.proofs.SeatNumbers.{seats-apart}
 use Rattle.growing_history.proofs.laws.live_numbers_rise.Goals as goal
 

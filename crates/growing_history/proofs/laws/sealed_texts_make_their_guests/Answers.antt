@@ -1,4 +1,5 @@
-use Rattle.growing_history.proofs.TextLaws.{made-nil, made-goes-on, texts-in-turn}
+use Rattle.growing_history.specs.laws.Texts.{made-nil, made-goes-on}
+use Rattle.growing_history.proofs.TextLaws.{texts-in-turn}
 use Rattle.growing_history.proofs.laws.sealed_texts_make_their_guests.Goals as goal
 
 pub returns-clause-start : goal.returns-clause-start

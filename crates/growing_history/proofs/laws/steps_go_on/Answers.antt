@@ -1,5 +1,5 @@
 use Rattle.growing_history.proofs.Start.{legal-nil}
-use Rattle.growing_history.proofs.LogLaws.{goes-on, needed, begun, state-nil, state-snoc, history-nil, history-snoc, history-begins}
+use Rattle.growing_history.specs.laws.Logs.{goes-on, needed, begun, state-nil, state-snoc, history-nil, history-snoc, history-begins}
 use Rattle.growing_history.proofs.laws.steps_go_on.Goals as goal
 
 pub returns-clause-start : goal.returns-clause-start

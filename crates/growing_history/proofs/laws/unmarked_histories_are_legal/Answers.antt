@@ -1,4 +1,4 @@
-use Rattle.growing_history.proofs.LogLaws.{history-lawful, history-stands, marks-rise}
+use Rattle.growing_history.specs.laws.Logs.{history-lawful, history-stands, marks-rise}
 use Rattle.growing_history.proofs.laws.unmarked_histories_are_legal.Goals as goal
 
 pub returns-clause-legal : goal.returns-clause-legal

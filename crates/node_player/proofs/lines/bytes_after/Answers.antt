@@ -1,5 +1,5 @@
 use Rattle.std.proofs.Common.{◌∙◌, sym}
-use Rattle.script_player.proofs.{OptionLemmas.some_same}
+use Rattle.script_player.specs.laws.Options.{some_same}
 use Rattle.node_player.{proofs.LineLemmas.{after-front, found-bytes, said-bytes}}
 use Rattle.node_player.proofs.lines.bytes_after.Goals as goal
 

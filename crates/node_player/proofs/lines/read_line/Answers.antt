@@ -1,5 +1,5 @@
 use Rattle.std.proofs.Common.{◌∙◌, sym}
-use Rattle.script_player.proofs.OptionLemmas.{on-err}
+use Rattle.script_player.specs.laws.Options.{on-err}
 use Rattle.node_player.specs.Lines.{Line, arrive, piece, boot, IsLine, WantsMemory}
 use Rattle.node_player.proofs.LineLemmas.{arrive-only, piece-only, boot-only}
 use Rattle.node_player.proofs.lines.read_line.Goals as goal

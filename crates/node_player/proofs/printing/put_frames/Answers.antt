@@ -1,6 +1,7 @@
 use Rattle.std.proofs.Common.{drop, ◌+◌, arith, sym, append-nil, []}
 use Rattle.std.proofs.lemmas.List.{take_all}
-use Rattle.script_player.{specs.Streams.IsPut, proofs.OptionLemmas.failed}
+use Rattle.script_player.specs.Streams.{IsPut}
+use Rattle.script_player.specs.laws.Options.{failed}
 use Rattle.node_player.{specs.Printed.{frame_line, frame_lines}, proofs.PutLemmas.{put-last, put-failed, lines-from}}
 use Rattle.node_player.proofs.printing.put_frames.Goals as goal
 

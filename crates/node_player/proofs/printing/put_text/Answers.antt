@@ -1,7 +1,8 @@
 use Rattle.std.proofs.Common.{◌++◌, [], codes, length, refl, sym, ap, ap₂, ◌∙◌, arith, append_assoc, append-nil}
 use Rattle.std.proofs.lemmas.List.{take-append-drop}
 use Rattle.hex.specs.Hex.{encode_lower}
-use Rattle.script_player.{specs.Streams.IsPut, proofs.OptionLemmas.failed}
+use Rattle.script_player.specs.Streams.{IsPut}
+use Rattle.script_player.specs.laws.Options.{failed}
 use Rattle.node_player.{specs.Printed.text_line, proofs.PutLemmas.{put-none, put-more, put-last, put-failed, line-goes-on, piece-written}}
 use Rattle.node_player.proofs.printing.put_text.Goals as goal
 

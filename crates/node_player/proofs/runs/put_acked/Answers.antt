@@ -1,5 +1,7 @@
 use Rattle.std.proofs.Common.{◌∷◌, [], length, codes, decimal, ◌∙◌}
-use Rattle.script_player.{specs.{Streams.IsPut, Printed.line}, proofs.OptionLemmas.failed}
+use Rattle.script_player.specs.Streams.{IsPut}
+use Rattle.script_player.specs.Printed.{line}
+use Rattle.script_player.specs.laws.Options.{failed}
 use Rattle.node_player.{specs.Printed.{frame_lines, acked_lines}, proofs.PutLemmas.{front-longer, put-none, put-more, put-last}}
 use Rattle.node_player.proofs.runs.put_acked.Goals as goal
 

@@ -1,6 +1,8 @@
 use Rattle.std.proofs.Common.{◌∷◌, ◌++◌, [], length, codes, decimal, ◌∙◌, ap, sym, append_assoc, length-append}
 use Rattle.std.proofs.lemmas.Grind.{flat_map-append}
-use Rattle.script_player.{specs.{Streams.IsPut, Printed.line}, proofs.OptionLemmas.failed}
+use Rattle.script_player.specs.Streams.{IsPut}
+use Rattle.script_player.specs.Printed.{line}
+use Rattle.script_player.specs.laws.Options.{failed}
 use Rattle.node_player.specs.Printed.{frame_line, frame_lines, alone_lines}
 use Rattle.node_player.proofs.PutLemmas.{front-longer, put-none, put-more, put-last, put-failed}
 use Rattle.node_player.proofs.runs.put_alone.Goals as goal

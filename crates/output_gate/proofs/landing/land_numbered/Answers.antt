@@ -1,6 +1,6 @@
 -- A frame lands once at most for each of its clients.
 use Rattle.std.proofs.{Common.{length, arith}, Math.Nat.mul-le-mul}
-use Rattle.frame_ports.proofs.AddressLaws.{length-targets_of}
+use Rattle.frame_ports.specs.laws.Addresses.{length-targets_of}
 use Rattle.output_gate.proofs.StepLemmas.{landings_most}
 use Rattle.output_gate.proofs.landing.land_numbered.Goals as goal
 

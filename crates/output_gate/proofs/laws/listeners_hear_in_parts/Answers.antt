@@ -1,4 +1,4 @@
-use Rattle.output_gate.proofs.PortsAfterLaws.{told_after-append}
+use Rattle.output_gate.specs.laws.Ports.{told_after-append}
 use Rattle.output_gate.proofs.laws.listeners_hear_in_parts.Goals as goal
 
 pub returns : goal.returns

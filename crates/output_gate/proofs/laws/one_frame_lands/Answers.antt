@@ -1,4 +1,6 @@
-use Rattle.output_gate.proofs.{LandedLaws.{clients_rise, others_stay, same_new}, PortsAfterLaws.boxes_count-for}
+use Rattle.output_gate.specs.laws.New.{clients_rise}
+use Rattle.output_gate.proofs.LandedLaws.{others_stay, same_new}
+use Rattle.output_gate.specs.laws.Ports.{boxes_count-for}
 use Rattle.output_gate.proofs.laws.one_frame_lands.Goals as goal
 
 pub returns-clause-rise : goal.returns-clause-rise

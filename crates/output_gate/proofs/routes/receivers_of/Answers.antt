@@ -3,7 +3,7 @@ use Rattle.std.proofs.lemmas.List.{append-nil, length-append}
 use Rattle.std.specs.Prelude.{All}
 use Rattle.arrayvec.specs.ArrayVec.{ArrayVec}
 use Rattle.frame_ports.specs.{Addresses.clients_of, Ports.IsClient, Targets.AreTargets}
-use Rattle.frame_ports.proofs.AddressLaws.{clients_from-range}
+use Rattle.frame_ports.specs.laws.Addresses.{clients_from-range}
 use Rattle.output_gate.specs.Landings.{clients_for}
 use Rattle.output_gate.proofs.Receivers.{from_on, next_yes, next_no, span_starts, span_ends}
 use Rattle.output_gate.proofs.routes.receivers_of.Goals.{then-contains, else-contains, After-span-first}

@@ -1,7 +1,7 @@
 use Rattle.std.proofs.Common.{◌++◌, map, sym, ap}
 use Rattle.pair_history.specs.Entries.{DropIn}
 use Rattle.pair_history.specs.Failures.{arrived_numbers, all_land}
-use Rattle.pair_history.proofs.SortedLaws.{rising-sorted}
+use Rattle.pair_history.specs.laws.Sorted.{rising-sorted}
 use Rattle.pair_history.proofs.FailureLaws.{go_live_leaves, go_live_stays}
 use Rattle.pair_history.proofs.failures.going_live_lands_what_is_owed.Goals as goal
 

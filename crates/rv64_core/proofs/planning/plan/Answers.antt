@@ -1,6 +1,6 @@
 use Rattle.std.proofs.Common.{subst, sym}
 use Rattle.rv64_core.specs.Meaning.{GoesOnAligned}
-use Rattle.rv64_core.proofs.Aligned.{plan_of_aligned}
+use Rattle.rv64_core.specs.laws.Aligned.{plan_of_aligned}
 use Rattle.rv64_core.proofs.planning.plan.Goals as goal
 
 pub returns-clause-aligned : goal.returns-clause-aligned

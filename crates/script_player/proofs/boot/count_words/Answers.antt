@@ -1,5 +1,6 @@
 use Rattle.std.proofs.Common.{◌≡◌, ap, length, arith}
-use Rattle.script_player.proofs.{OptionLemmas.if-none, WordsLemmas.{counted-more, reading_all, reading_done, reading_empty}}
+use Rattle.script_player.specs.laws.Options.{if-none}
+use Rattle.script_player.proofs.WordsLemmas.{counted-more, reading_all, reading_done, reading_empty}
 use Rattle.script_player.proofs.boot.count_words.Goals as goal
 
 pub returns-in_err-others-clause-none : goal.returns-in_err-others-clause-none

@@ -1,6 +1,7 @@
 -- a text that begins with a word has its field in the first nine bytes
 use Rattle.std.proofs.Common.{◌∙◌, refl, arith}
-use Rattle.script_player.proofs.{WordsLemmas.front-field, OptionLemmas.some_same}
+use Rattle.script_player.proofs.WordsLemmas.{front-field}
+use Rattle.script_player.specs.laws.Options.{some_same}
 use Rattle.script_player.proofs.boot.first_word.Goals as goal
 
 pub returns-in_err-field-clause-only : goal.returns-in_err-field-clause-only

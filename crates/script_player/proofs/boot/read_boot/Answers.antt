@@ -1,6 +1,7 @@
 use Rattle.std.proofs.Common.{◌∙◌, refl, sym, ap}
 use Rattle.script_player.specs.{Guests.named_guest, Boot.{BootLine, IsBoot}, internal.Head.head_view}
-use Rattle.script_player.proofs.{BootLemmas.{Found, head-again, head_of-spelled, head_of-read}, OptionLemmas.{some_same, on-err}}
+use Rattle.script_player.proofs.BootLemmas.{Found, head-again, head_of-spelled, head_of-read}
+use Rattle.script_player.specs.laws.Options.{some_same, on-err}
 use Rattle.script_player.proofs.boot.read_boot.Goals as goal
 
 pub returns-in_default-clause-only : goal.returns-in_default-clause-only

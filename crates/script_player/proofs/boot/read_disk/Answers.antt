@@ -1,6 +1,7 @@
 -- the sector's number stands before the digits of the byte
 use Rattle.std.{proofs.Common.{◌∙◌, ap, refl, [], ◌∷◌}, specs.Prelude.slice_index_or}
-use Rattle.script_player.proofs.{DiskLemmas.{disk_operand, one_reading, disk_read}, OptionLemmas.some_same}
+use Rattle.script_player.proofs.DiskLemmas.{disk_operand, one_reading, disk_read}
+use Rattle.script_player.specs.laws.Options.{some_same}
 use Rattle.script_player.proofs.boot.read_disk.Goals as goal
 
 pub returns-in_err-sector-clause-only : goal.returns-in_err-sector-clause-only

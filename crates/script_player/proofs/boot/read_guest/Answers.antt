@@ -1,6 +1,7 @@
 -- the words that a text spells are a guest's, where they fit
 use Rattle.std.proofs.Common.{arith}
-use Rattle.script_player.proofs.{GuestLemmas.{too-many, words-guest}, OptionLemmas.on-err}
+use Rattle.script_player.proofs.GuestLemmas.{too-many, words-guest}
+use Rattle.script_player.specs.laws.Options.{on-err}
 use Rattle.script_player.proofs.boot.read_guest.Goals as goal
 
 pub returns-then-count-from-clause-only : goal.returns-then-count-from-clause-only

@@ -4,7 +4,8 @@ use Rattle.std.proofs.lemmas.List.{nil_from_length}
 use Rattle.checkpoint_stream.specs.Readings.{Reading, begun, is_closed}
 use Rattle.script_player.specs.{Listing.IsListedTo, StreamMeaning.complete}
 use Rattle.script_player.proofs.ListingLemmas.{follows-next, follows-last, follows-end, listed-cut}
-use Rattle.script_player.proofs.{ListingLemmas.not-complete, OptionLemmas.failed}
+use Rattle.script_player.proofs.ListingLemmas.{not-complete}
+use Rattle.script_player.specs.laws.Options.{failed}
 use Rattle.script_player.proofs.check_stream.list.Goals as goal
 
 pub returns-in_err-left : goal.returns-in_err-left

@@ -1,6 +1,8 @@
 -- where a write fails, a beginning of the line is printed
 use Rattle.std.proofs.Common.{None}
-use Rattle.script_player.{specs.Listing.IsPrinted, proofs.{ListingLemmas.no_memory-last, OptionLemmas.failed}}
+use Rattle.script_player.specs.Listing.{IsPrinted}
+use Rattle.script_player.proofs.ListingLemmas.{no_memory-last}
+use Rattle.script_player.specs.laws.Options.{failed}
 use Rattle.script_player.proofs.check_stream.print_next.Goals as goal
 
 pub returns-in_err-put-in-Ok-clause-printed : goal.returns-in_err-put-in-Ok-clause-printed

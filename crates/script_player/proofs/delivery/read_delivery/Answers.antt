@@ -1,7 +1,8 @@
 -- the client's number stands before the digits
 use Rattle.std.proofs.Common.{◌∙◌, ℕ, List, refl, sym}
 use Rattle.script_player.specs.Delivery.{IsDelivery}
-use Rattle.script_player.proofs.{DeliveryLemmas.{delivery-read, delivery-spelled, one-reading}, OptionLemmas.{on-err, some_same}}
+use Rattle.script_player.proofs.DeliveryLemmas.{delivery-read, delivery-spelled, one-reading}
+use Rattle.script_player.specs.laws.Options.{on-err, some_same}
 use Rattle.script_player.proofs.delivery.read_delivery.Goals as goal
 
 pub returns-in_default-clause-only : goal.returns-in_default-clause-only

@@ -3,7 +3,8 @@ use Rattle.std.specs.List.{list_all}
 use Rattle.std.proofs.lemmas.List.{take-append-drop}
 use Rattle.hex.specs.Hex.{encode_lower}
 use Rattle.script_player.specs.internal.Digits.{is_lower_digit}
-use Rattle.script_player.proofs.{LaneLemmas.{encode-append, fails-behind, fails-here}, OptionLemmas.if-none}
+use Rattle.script_player.proofs.LaneLemmas.{encode-append, fails-behind, fails-here}
+use Rattle.script_player.specs.laws.Options.{if-none}
 use Rattle.script_player.proofs.digits.read_into.Goals as goal
 
 pub loop-block-init : goal.loop-block-init

@@ -1,7 +1,7 @@
 use Rattle.script_player.specs.Session.{IsReply}
 use Rattle.std.proofs.Common.{sym, ◌∙◌}
 use Rattle.script_player.{specs.internal.Serving.IsFed, proofs.SessionLemmas.{under-way, all-answered, goes-on, line-ends, cut-in-it}}
-use Rattle.script_player.proofs.OptionLemmas.{failed}
+use Rattle.script_player.specs.laws.Options.{failed}
 use Rattle.script_player.proofs.session.feed.Goals as goal
 
 pub loop-left-init : goal.loop-left-init

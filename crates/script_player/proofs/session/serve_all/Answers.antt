@@ -1,7 +1,8 @@
 use Rattle.script_player.specs.Session.{IsReply}
 use Rattle.std.proofs.{Common.{[], ◌++◌, take, arith, refl}, KnownBytes.{Appends-nil, Appends-trans, Consumes-nil, Consumes-trans}}
 use Rattle.script_player.specs.{Session.IsServed, internal.Serving.status_of}
-use Rattle.script_player.proofs.{SessionLemmas.{read-failed, write-failed, input-ended}, OptionLemmas.failed}
+use Rattle.script_player.proofs.SessionLemmas.{read-failed, write-failed, input-ended}
+use Rattle.script_player.specs.laws.Options.{failed}
 use Rattle.script_player.proofs.session.serve_all.Goals as goal
 
 pub loop-line-init : goal.loop-line-init

@@ -1,4 +1,4 @@
-use Rattle.virtqueue.proofs.Lengths.{length_readable, length_places, length_put_at, length_used_written}
+use Rattle.virtqueue.specs.laws.Lengths.{length_readable, length_places, length_put_at, length_used_written}
 use Rattle.virtqueue.proofs.laws.joined_lengths.Goals as goal
 
 pub returns-clause-readable : goal.returns-clause-readable

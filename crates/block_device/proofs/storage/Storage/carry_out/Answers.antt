@@ -1,5 +1,6 @@
 use Rattle.std.proofs.Common.{ap, ◌∙◌, sym, arith}
-use Rattle.virtqueue.{specs.Parts.{readable_bytes, writable_places, put_at}, proofs.Scattered.put_none}
+use Rattle.virtqueue.specs.Parts.{readable_bytes, writable_places, put_at}
+use Rattle.virtqueue.specs.laws.Parts.{put_none}
 use Rattle.block_device.{specs.Request.request_of, proofs.RequestLemmas.other_kind}
 use Rattle.block_device.proofs.storage.Storage.carry_out.Goals as goal
 

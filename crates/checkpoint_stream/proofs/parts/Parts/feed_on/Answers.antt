@@ -1,7 +1,8 @@
 use Rattle.std.proofs.{Common.{rules, ◌≡◌, false, ◌≤◌, ◌+◌, length, take, sym, ◌∙◌, ap, subst}, lemmas.List.length-take-le}
 use Rattle.std.proofs.lemmas.List.{take-append-drop}
 use Rattle.checkpoint_stream.specs.{Readings.{fed, taken}, Taken.{Takes, Extends, has_room}}
-use Rattle.checkpoint_stream.proofs.{Extending.{Extends-itself, fed-extends}, Feeding.{Takes-more, count-inside, fed-done, taken-done}}
+use Rattle.checkpoint_stream.specs.laws.Extending.{Extends-itself, fed-extends}
+use Rattle.checkpoint_stream.proofs.Feeding.{Takes-more, count-inside, fed-done, taken-done}
 use Rattle.checkpoint_stream.proofs.{RunLemmas.Extends-both, PlaceLemmas.room-before}
 use Rattle.checkpoint_stream.proofs.parts.Parts.feed_on.Goals as goal
 

@@ -2,7 +2,9 @@ use Rattle.std.proofs.Common.{rules, ◌≡◌, false, ◌≤◌, ◌+◌, ◌-�
 use Rattle.std.proofs.lemmas.List.{length-take-le}
 use Rattle.checkpoint_stream.specs.{declared.place.Place.{Place, TheVariants.{Block, FrameBytes}}, Readings.{Reading, is_closed, width_at}}
 use Rattle.checkpoint_stream.specs.{Readings.{judged, block_judged}, Taken.{Takes, Extends, has_room}}
-use Rattle.checkpoint_stream.proofs.{Feeding.{Takes-nothing, Takes-unit}, Extending.{Extends-itself, fed-extends}, RunLemmas.judged-block}
+use Rattle.checkpoint_stream.proofs.Feeding.{Takes-nothing, Takes-unit}
+use Rattle.checkpoint_stream.specs.laws.Extending.{Extends-itself, fed-extends}
+use Rattle.checkpoint_stream.proofs.RunLemmas.{judged-block}
 use Rattle.checkpoint_stream.proofs.{RunLemmas.Takes-next, PlaceLemmas.{part-nothing, room-before}}
 use Rattle.checkpoint_stream.proofs.parts.Parts.take_blocks.Goals as goal
 

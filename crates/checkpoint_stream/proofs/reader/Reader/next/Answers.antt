@@ -1,5 +1,6 @@
 use Rattle.std.proofs.Common.{sym, ◌∙◌}
-use Rattle.checkpoint_stream.proofs.Canonical.{canonical, whole-place}
+use Rattle.checkpoint_stream.proofs.Canonical.{canonical}
+use Rattle.checkpoint_stream.specs.laws.Feeding.{whole-place}
 use Rattle.checkpoint_stream.proofs.reader.Reader.next.Goals as goal
 
 pub take_checkpoint-requires-clause-canonical : goal.take_checkpoint-requires-clause-canonical

@@ -1,6 +1,6 @@
 use Rattle.std.proofs.Common.{◌≡◌, ℕ, ◌++◌, List, sym, ap, ◌∙◌, length}
 use Rattle.virtqueue.specs.Parts.{readable_bytes}
-use Rattle.virtqueue.proofs.Lengths.{length_readable}
+use Rattle.virtqueue.specs.laws.Lengths.{length_readable}
 use Rattle.net_device.proofs.Lengths.{frame_sent, frame_lost, kept_sent}
 use Rattle.std.proofs.lemmas.List.{append-nil}
 use Rattle.net_device.proofs.sending.OutboxChainHandler.act.Goals as goal

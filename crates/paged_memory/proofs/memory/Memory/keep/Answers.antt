@@ -1,6 +1,8 @@
 use Rattle.std.proofs.Common.{◌≡◌, ◌≤◌, ◌<◌, ◌*◌, ◌^◌, length, sym, ap, ◌∙◌, subst, arith}
 use Rattle.paged_memory.specs.Pages.{Paged, IsPaged, with_flags}
-use Rattle.paged_memory.proofs.{FlagLemmas.marked_some, StoredLemmas.paged, SeenLemmas.nothing_kept}
+use Rattle.paged_memory.specs.laws.Flags.{marked_some}
+use Rattle.paged_memory.proofs.StoredLemmas.{paged}
+use Rattle.paged_memory.proofs.SeenLemmas.{nothing_kept}
 use Rattle.paged_memory.proofs.memory.Memory.keep.Goals as goal
 
 pub returns-then-count-gt0 : goal.returns-then-count-gt0

@@ -1,7 +1,9 @@
 use Rattle.std.proofs.{lemmas.{Bool.true≢false, List.get_or_read}, Common.{◌≡◌, ◌≤◌, ◌<◌, ◌+◌, ◌-◌, ◌*◌, ◌/◌, ◌^◌, ℕ, ◌&&◌, List, Bool}}
 use Rattle.std.proofs.Common.{true, false, length, refl, sym, ap, ◌∙◌, subst, arith}
 use Rattle.paged_memory.specs.Pages.{Paged, IsPaged, is_written, with_flags}
-use Rattle.paged_memory.proofs.{FlagLemmas.marked_some, StoredLemmas.paged, SeenLemmas.all_kept}
+use Rattle.paged_memory.specs.laws.Flags.{marked_some}
+use Rattle.paged_memory.proofs.StoredLemmas.{paged}
+use Rattle.paged_memory.proofs.SeenLemmas.{all_kept}
 use Rattle.paged_memory.proofs.memory.Memory.keep_few.Goals as goal
 
 pub returns-then-not-first_written-index : goal.returns-then-not-first_written-index

@@ -1,5 +1,7 @@
 use Rattle.std.proofs.{Common.{◌≡◌, ◌<◌, ◌+◌, ℕ, true, length, sym, ap, ◌∙◌, subst, arith}, lemmas.List.get_or_read}
-use Rattle.paged_memory.{specs.Pages.{Paged, is_written}, proofs.{FlagLemmas.length-flagged, SeenLemmas.{KeptBelow, one_below}}}
+use Rattle.paged_memory.specs.Pages.{Paged, is_written}
+use Rattle.paged_memory.specs.laws.Flags.{length-flagged}
+use Rattle.paged_memory.proofs.SeenLemmas.{KeptBelow, one_below}
 use Rattle.paged_memory.proofs.{SeenLemmas.one_kept_below, memory.Memory.keep_pages.Goals.{then-not-index, else-not-index}}
 use Rattle.paged_memory.proofs.memory.Memory.keep_pages.Goals as goal
 

@@ -1,7 +1,7 @@
 use Rattle.std.proofs.Common.{List, ap, sym, ◌∙◌}
 use Rattle.pair_history.specs.Entries.{Entry}
 use Rattle.pair_history.specs.HistoryState.{HistoryState, at}
-use Rattle.growing_history.proofs.LogLaws.{history-stands}
+use Rattle.growing_history.specs.laws.Logs.{history-stands}
 use Rattle.pair_book.proofs.book.Book.entries.Goals as goal
 
 pub returns-clause-inboxes : goal.returns-clause-inboxes

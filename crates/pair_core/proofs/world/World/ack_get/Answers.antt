@@ -6,7 +6,7 @@ use Rattle.pair_record.specs.declared.event.Packet.{Packet}
 use Rattle.pair_core.specs.{Answering.AddsEntries, internal.Invariant.Holds, Pair.{Pair, shown_state}}
 use Rattle.pair_record.specs.Record.{ports_after_ack}
 use Rattle.pair_core.specs.internal.WorldFields.{pair_of}
-use Rattle.pair_record.proofs.LengthLaws.{length-landings}
+use Rattle.pair_history.specs.laws.Landings.{length-landings}
 use Rattle.pair_core.proofs.{Calls.{after_call, on_err_so}, ClientEvents.ack_holds, LineLaws.below_at, Outcomes.goes}
 use Rattle.pair_record.proofs.RecordLaws.{passed, generation_is}
 use Rattle.pair_core.proofs.world.World.ack_get.Goals as goal

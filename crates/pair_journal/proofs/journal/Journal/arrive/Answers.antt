@@ -1,7 +1,8 @@
 use Rattle.std.proofs.{Common.{rules, ◌≡◌, ◌++◌, ◌∷◌, [], arith}, lemmas.List.length-append}
 use Rattle.pair_history.specs.Entries.{Arrive}
 use Rattle.pair_journal.specs.internal.Arrivals.{epoch_entries}
-use Rattle.pair_journal.proofs.JournalLaws.{epoch-arrives, length-all}
+use Rattle.pair_journal.proofs.JournalLaws.{epoch-arrives}
+use Rattle.pair_journal.specs.laws.Joined.{length-all}
 use Rattle.pair_journal.proofs.journal.Journal.arrive.Goals.{After-unwrap}
 use Rattle.pair_journal.proofs.journal.Journal.arrive.Goals as goal
 

@@ -4,8 +4,9 @@ use Rattle.pair_journal.specs.Epochs.{guest_epoch, behind}
 use Rattle.pair_journal.specs.Journal.{joined}
 use Rattle.pair_journal.specs.internal.Arrivals.{epoch_entries}
 use Rattle.pair_journal.specs.internal.JournalFields.{epoch_of, stored}
-use Rattle.pair_journal.proofs.EpochLaws.{first-is, others-are, length-parted}
-use Rattle.pair_journal.proofs.JournalLaws.{length-all, length-kept}
+use Rattle.pair_journal.proofs.EpochLaws.{first-is, others-are}
+use Rattle.pair_journal.specs.laws.Epochs.{length-parted}
+use Rattle.pair_journal.specs.laws.Joined.{length-all, length-kept}
 use Rattle.pair_journal.proofs.ArrivedLaws.{arrived-count}
 use Rattle.pair_journal.proofs.journal.Journal.enter_epoch.Goals.{After-as_slice-2}
 use Rattle.pair_journal.proofs.journal.Journal.enter_epoch.Goals as goal

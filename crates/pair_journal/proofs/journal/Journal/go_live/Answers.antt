@@ -4,7 +4,8 @@ use Rattle.pair_history.specs.Failures.{drops_of_taken_in}
 use Rattle.pair_journal.specs.internal.Arrivals.{epoch_entries}
 use Rattle.pair_journal.specs.Journal.{joined, kept_entries}
 use Rattle.pair_journal.specs.internal.JournalFields.{stored, epoch_of}
-use Rattle.pair_journal.proofs.ArrivedLaws.{as_many, length-drops, live_history}
+use Rattle.pair_journal.proofs.ArrivedLaws.{as_many, live_history}
+use Rattle.pair_journal.specs.laws.Joined.{length-drops}
 use Rattle.pair_journal.proofs.journal.Journal.go_live.Goals.{After-as_slice-2, After-add_drops_in}
 use Rattle.pair_journal.proofs.journal.Journal.go_live.Goals as goal
 

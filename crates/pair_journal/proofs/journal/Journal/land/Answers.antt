@@ -3,8 +3,9 @@ use Rattle.frame_ports.specs.Addresses.{targets_of}
 use Rattle.pair_history.specs.{Entries.Entry}
 use Rattle.pair_journal.specs.Journal.{with_history}
 use Rattle.pair_journal.specs.LandedEntries.{Heard, heard, entries_after}
-use Rattle.pair_journal.proofs.LandedEntryLaws.{entries_count, entries-new, heard_after}
-use Rattle.pair_journal.proofs.LengthLaws.{length-landings}
+use Rattle.pair_journal.proofs.LandedEntryLaws.{entries_count, heard_after}
+use Rattle.pair_journal.specs.laws.Landed.{entries-new}
+use Rattle.pair_history.specs.laws.Landings.{length-landings}
 use Rattle.pair_journal.proofs.journal.Journal.land.Goals.{After-land_telling}
 use Rattle.pair_journal.proofs.journal.Journal.land.Goals as goal
 

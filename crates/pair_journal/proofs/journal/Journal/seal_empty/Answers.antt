@@ -1,5 +1,5 @@
 use Rattle.std.proofs.{Common.{rules, arith}, lemmas.List.{length-append, map-append}}
-use Rattle.pair_journal.proofs.JournalLaws.{joined-push}
+use Rattle.pair_journal.specs.laws.Joined.{joined-push}
 use Rattle.pair_journal.proofs.journal.Journal.seal_empty.Goals as goal
 
 pub invariant_of-self-2 : goal.invariant_of-self-2

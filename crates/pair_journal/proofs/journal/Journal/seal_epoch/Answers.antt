@@ -4,8 +4,9 @@ use Rattle.std.specs.Prelude.{map}
 use Rattle.pair_journal.specs.Epochs.{guest_epoch, behind}
 use Rattle.pair_journal.specs.Journal.{joined, kept_entries, sealed_as}
 use Rattle.pair_journal.specs.internal.JournalFields.{epoch_of, stored}
-use Rattle.pair_journal.proofs.EpochLaws.{first-is, others-are, kept-sealed}
-use Rattle.pair_journal.proofs.JournalLaws.{length-all, length-kept}
+use Rattle.pair_journal.proofs.EpochLaws.{first-is, others-are}
+use Rattle.pair_journal.specs.laws.Epochs.{kept-sealed}
+use Rattle.pair_journal.specs.laws.Joined.{length-all, length-kept}
 use Rattle.pair_journal.proofs.ArrivedLaws.{arrived-count}
 use Rattle.pair_journal.proofs.journal.Journal.seal_epoch.Goals.{After-self-1}
 use Rattle.pair_journal.proofs.journal.Journal.seal_epoch.Goals as goal

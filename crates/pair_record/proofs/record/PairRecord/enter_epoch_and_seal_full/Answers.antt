@@ -2,7 +2,7 @@ use Rattle.std.proofs.Common.{arith, ◌≡◌, ◌∙◌, [], length, ap}
 use Rattle.frame_ports.specs.Numbers.{marked}
 use Rattle.pair_journal.specs.Journal.{Journal, all_entries}
 use Rattle.pair_record.specs.internal.RecordFields.{record_state}
-use Rattle.pair_journal.proofs.EpochLaws.{all-entered}
+use Rattle.pair_journal.specs.laws.Epochs.{all-entered}
 use Rattle.pair_record.proofs.NumberLaws.{lone_came, lone_ports}
 use Rattle.pair_record.proofs.ProtectLaws.{none_yet}
 use Rattle.pair_record.proofs.RecordLaws.{passed, has_room_for}

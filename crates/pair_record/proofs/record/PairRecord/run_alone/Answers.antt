@@ -2,7 +2,7 @@ use Rattle.std.proofs.{Common.{rules, ◌≡◌, ◌∙◌, ◌+◌, ◌-◌, �
 use Rattle.frame_ports.specs.Addresses.{targets_of}
 use Rattle.pair_history.specs.{Entries.Ran, Landings.landings}
 use Rattle.pair_journal.specs.Journal.{Journal, all_entries, with_history}
-use Rattle.pair_record.proofs.JournalLaws.{length-all}
+use Rattle.pair_journal.specs.laws.Joined.{length-all}
 use Rattle.pair_record.specs.Record.{ports_landed}
 use Rattle.pair_record.specs.internal.RecordFields.{record_state}
 use Rattle.pair_record.proofs.{AloneLaws.few_targets, LiveLaws.goes_on_twice, NumberLaws.{lone_came, lone_numbers, lone_ports, same_numbers}}

@@ -30,7 +30,7 @@ use Rattle.virtqueue.specs.declared.chains.Descriptor.{Descriptor}
 use Rattle.virtqueue.specs.Chains.{buffer_inside, BuffersInside}
 use Rattle.virtqueue.specs.Parts.{readable_bytes, bytes_of, readable_len}
 use Rattle.virtqueue.proofs.Gathered.{inside_at, step_before, step_in, read_more, read_all}
-use Rattle.virtqueue.proofs.Lengths.{length_bytes_of, length_readable}
+use Rattle.virtqueue.specs.laws.Lengths.{length_bytes_of, length_readable}
 use Rattle.virtqueue.proofs.rings.Queue.gather.Goals as goal
 
 pub loop-part-preserved-then-skip-len : goal.loop-part-preserved-then-skip-len

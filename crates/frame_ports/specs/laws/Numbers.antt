@@ -1,5 +1,6 @@
--- Laws of the clients' numbers, for the crates above.
-use Rattle.std.proofs.Common.{◌≡◌, ℕ, ◌-◌, ◌<◌, ◌≤◌, ◌≢◌, Bool, true, false, if◌then◌else◌, ◌⊎◌, ⊎_elim, inl, inr, List, length, slice_index_or, slice_set, refl, sym, ◌∙◌, ap, subst, arith, length-set}
+-- What a landing under a number does, by whether it is new for the client; what it keeps, and whose number rises.
+use Rattle.std.proofs.Common.{◌≡◌, ℕ, ◌-◌, ◌<◌, ◌≤◌, ◌≢◌, Bool, true, false, if◌then◌else◌, ◌⊎◌, ⊎_elim, inl, inr, List, length}
+use Rattle.std.proofs.Common.{slice_index_or, slice_set, refl, sym, ◌∙◌, ap, subst, arith, length-set}
 use Rattle.std.proofs.lemmas.Bool.{ltb-true, ltb-false, lt-ltb, le-ltb, cases_eq, cases_lt}
 use Rattle.std.proofs.lemmas.List.{get_or-set_same, get_or-set_other, set_past}
 use Rattle.arrayvec.specs.ArrayVec.{ArrayVec}
@@ -8,7 +9,7 @@ use Rattle.frame_ports.specs.Lands.{has_room, landed_at}
 use Rattle.frame_ports.specs.Numbers.{number_of, is_new, landing, after_landing}
 use Rattle.frame_ports.specs.Ports.{PortsState, IsPorts, IsClient}
 use Rattle.frame_ports.specs.declared.landing.Landing.TheVariants.{In, Dropped, Old}
-use Rattle.frame_ports.proofs.LandLaws.{length-landed_at, boxes-landed_at}
+use Rattle.frame_ports.specs.laws.Lands.{length-landed_at, boxes-landed_at}
 
 module _ (s : PortsState) (c n : ℕ) (f : ArrayVec ℕ) where
   -- the ports after a frame that is new

@@ -5,11 +5,10 @@ use Rattle.std.specs.Prelude.{◌==◌}
 use Rattle.pair_history.specs.HistoryState.{HistoryState}
 use Rattle.growing_history.specs.Steps.{Step, Begins, steps_by}
 use Rattle.growing_history.specs.LogState.{start_of, state_after, LegalFrom, Legal}
-use Rattle.growing_history.proofs.Prefixes.{steps_by-append}
-use Rattle.growing_history.proofs.LogLaws.{state-append, first, second}
+use Rattle.growing_history.specs.laws.Prefixes.{steps_by-append}
+use Rattle.growing_history.specs.laws.Logs.{state-append, first, second}
 
--- None of these steps is of that number.
-
+-- where none of these steps is of that number, neither is the first nor any of the others
 pub none-first : (n : ℕ) (x : Step) (xs : List Step) → steps_by n (x ∷ xs) ≡ [] → (x.by ≢ n) × (steps_by n xs ≡ [])
 none-first n x xs e = by_test (x.by == n) refl e
   where
@@ -28,10 +27,12 @@ none-more n xs more e =
     empty [] z = refl
     empty (x ∷ l) z = absurd (omega (arith, z))
 
+-- and none of what comes between two lists that have the same steps of it
 pub none-between : (n : ℕ) (old now : List Step) (b : Begins old now) → steps_by n now ≡ steps_by n old → steps_by n b.0 ≡ []
 none-between n old now b own = none-more n old b.0 (subst (λ xs. steps_by n xs ≡ steps_by n old) b.1 own)
 
 module _ (h : HistoryState) (old now : List Step) (b : Begins old now) where
+  -- the state at the longer one
   pub same : state_after (start_of h) now ≡ state_after (state_after (start_of h) old) b.0
   same = ap (state_after (start_of h)) b.1 ∙ state-append (start_of h) old b.0
 

@@ -2,8 +2,9 @@
 use Rattle.std.proofs.Common.{◌≡◌, ◌≢◌, ℕ, List, [], ◌∷◌, refl, sym, ap, ◌∙◌, Some}
 use Rattle.pair_history.specs.Entries.{Frame}
 use Rattle.pair_history.specs.HistoryState.{Waiting, frame_numbered, without_number}
-use Rattle.pair_history.specs.internal.Moves.{Move, Steps, Arrives, left, AllCan, AreRising}
-use Rattle.pair_history.proofs.Waiting.{AreRising-without, found-without, without-swaps, IsFirst-without, gone}
+use Rattle.pair_history.specs.Moves.{Move, Steps, Arrives, left, AllCan}
+use Rattle.pair_history.specs.Reached.{AreRising}
+use Rattle.pair_history.specs.laws.Waiting.{AreRising-without, found-without, without-swaps, IsFirst-without, gone}
 
 pub AreRising-left : (first end : ℕ) (ws : List Waiting) (ms : List Move) → AreRising first end ws → AreRising first end (left ws ms)
 AreRising-left first end ws [] h = h

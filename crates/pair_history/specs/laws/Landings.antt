@@ -1,17 +1,16 @@
 -- Laws of landings: what the entries that an acknowledgement adds do to a history's state.
-use Rattle.std.proofs.Common.{◌≡◌, ℕ, zero, suc, ◌-◌, ◌≤◌, List, [], ◌∷◌, ◌++◌, length, set, get_or, refl, ap, ◌∙◌}
+use Rattle.std.proofs.Common.{◌≡◌, ℕ, zero, suc, ◌-◌, ◌≤◌, List, [], ◌∷◌, ◌++◌, length, replicate, set, get_or, refl, ap, ◌∙◌}
 use Rattle.std.proofs.Common.{arith, Bool, true, false, cond}
 use Rattle.std.specs.List.{All}
 use Rattle.std.proofs.lemmas.Bool.{ltb-true}
 use Rattle.std.proofs.lemmas.Bool.Decides.{nat_tests}
 use Rattle.std.proofs.lemmas.List.{length-append}
 use Rattle.std.proofs.lemmas.List.Elements.{All-head, All-tail}
-pub use Rattle.std.proofs.lemmas.List.{length-set as length-set'}
 use Rattle.frame_ports.specs.Addresses.{targets_of}
 use Rattle.frame_ports.specs.Lands.{list_of, has_room, landed_at, lands}
 use Rattle.frame_ports.specs.Limits.{box_frames}
-use Rattle.frame_ports.proofs.AddressLaws.{targets_of-clients}
-pub use Rattle.frame_ports.proofs.LandLaws.{length-landed_at, length-lands}
+use Rattle.frame_ports.specs.laws.Addresses.{targets_of-clients}
+pub use Rattle.frame_ports.specs.laws.Lands.{length-landed_at, length-lands}
 use Rattle.pair_history.specs.Entries.{Frame, Entry, Land, DropOut}
 use Rattle.pair_history.specs.HistoryState.{HistoryState, at, after, Legal, Allows, out_of, out_without}
 use Rattle.pair_history.specs.Landings.{landings, DropsAtFull, BoxesFit}
@@ -37,6 +36,15 @@ BoxesFit-landed_at bs c f h =
 pub BoxesFit-lands : (bs : List (List Frame)) (ps : List (ℕ × Frame)) → BoxesFit bs → BoxesFit (lands bs ps)
 BoxesFit-lands bs [] h = h
 BoxesFit-lands bs (p ∷ ps) h = BoxesFit-lands (landed_at bs p.0 p.1) ps (BoxesFit-landed_at bs p.0 p.1 h)
+
+pub BoxesFit-empty : (clients : ℕ) → BoxesFit (replicate clients [])
+BoxesFit-empty zero = tt
+BoxesFit-empty (suc clients) = (omega arith, BoxesFit-empty clients)
+
+-- each landing is one entry
+pub length-landings : (boxes : List (List Frame)) (ps : List (ℕ × Frame)) → length (landings boxes ps) ≡ length ps
+length-landings boxes [] = refl
+length-landings boxes (p ∷ ps) = ap suc (length-landings (landed_at boxes p.0 p.1) ps)
 
 -- each pair's client is one of n
 AllClients-from : (n : ℕ) (ps : List (ℕ × Frame)) → All (λ p. (1 ≤ p.0) × (p.0 ≤ n)) ps → AllClients n ps
@@ -82,3 +90,17 @@ landings-land s (p ∷ ps) qs e a fit =
     let clients : AllClients (length t.boxes) ps = rw length-landed_at a.2 in
     let more = landings-land t ps qs refl clients (BoxesFit-landed_at s.boxes p.0 p.1 fit) in
     ((one.0, rw one.1 more.0), ap (λ v. at v (landings t.boxes ps)) one.1 ∙ more.1, one.2 (landings t.boxes ps) (rw one.1 more.2))
+
+-- What lands moves neither the guest nor what waits for it.
+pub landings-unmoved : (boxes : List (List Frame)) (ps : List (ℕ × Frame)) (h : HistoryState)
+    → ((at h (landings boxes ps)).guest ≡ h.guest) × ((at h (landings boxes ps)).waiting ≡ h.waiting)
+landings-unmoved boxes [] h = (refl, refl)
+landings-unmoved boxes (p ∷ ps) h = by_test _ (has_room boxes p.0) (landings-unmoved (landed_at boxes p.0 p.1) ps)
+  where
+    Unmoved : List Entry → HistoryState → Type 0
+    Unmoved es g = ((at g es).guest ≡ g.guest) × ((at g es).waiting ≡ g.waiting)
+
+    by_test : (place : ℕ) (t : Bool) → ((g : HistoryState) → Unmoved (landings (landed_at boxes p.0 p.1) ps) g)
+        → Unmoved (cond t (Land p.0) (DropOut p.0 place) ∷ landings (landed_at boxes p.0 p.1) ps) h
+    by_test place true rest = rest (after h (Land p.0))
+    by_test place false rest = rest (after h (DropOut p.0 place))

@@ -2,8 +2,7 @@
 use Rattle.std.proofs.Common.{◌≡◌, ℕ, zero, suc, ◌≤◌, List, [], ◌∷◌, ◌++◌, refl, sym, ap, ◌∙◌, subst, append_assoc, arith, le_refl}
 use Rattle.std.proofs.Common.{le_trans}
 use Rattle.std.proofs.lemmas.List.{append-nil}
-pub use Rattle.pair_history.proofs.States.{at-append, Legal-append}
-use Rattle.pair_history.specs.Entries.{Entry}
+use Rattle.pair_history.specs.laws.Histories.{at-append, Legal-append, legal-first, legal-second}
 use Rattle.pair_history.specs.Entries as entries
 use Rattle.pair_history.specs.HistoryState.{HistoryState, at}
 use Rattle.pair_history.specs.HistoryState as history
@@ -12,16 +11,8 @@ use Rattle.growing_history.specs.Steps.{Begins}
 use Rattle.growing_history.specs.LogState.{LogState, start_of, under_way, added, after, Needs, state_after, LegalFrom, history_from, Legal}
 use Rattle.growing_history.specs.LogState.{state_at, history_of}
 
--- of histories: a legal one, in two parts
-pub legal-first : (h : HistoryState) (xs ys : List Entry) → history.Legal h (xs ++ ys) → history.Legal h xs
-legal-first h [] ys l = tt
-legal-first h (e ∷ xs) ys l = (l.0, legal-first (history.after h e) xs ys l.1)
+-- OF LISTS OF STEPS, from any state: the state after them, whether they are legal, and the history, in two parts
 
-pub legal-second : (h : HistoryState) (xs ys : List Entry) → history.Legal h (xs ++ ys) → history.Legal (at h xs) ys
-legal-second h [] ys l = l
-legal-second h (e ∷ xs) ys l = legal-second (history.after h e) xs ys l.1
-
--- of lists of steps, from any state
 pub state-append : (s : LogState) (xs ys : List Step) → state_after s (xs ++ ys) ≡ state_after (state_after s xs) ys
 state-append s [] ys = refl
 state-append s (x ∷ xs) ys = state-append (after s x.what) xs ys
@@ -44,7 +35,7 @@ history-append s (x ∷ xs) ys =
     ap (λ l. added s x.what ++ l) (history-append (after s x.what) xs ys)
     ∙ sym (append_assoc (added s x.what) (history_from (after s x.what) xs) (history_from (state_after (after s x.what) xs) ys))
 
--- the history's state is that of what was added
+-- the history's state is that of what a step added, and of what all of them did
 pub moved : (s : LogState) (w : What) → (after s w).history ≡ at s.history (added s w)
 moved s (Added es) = refl
 moved s (Sealed g zero epoch text) = refl
@@ -63,7 +54,7 @@ stands s (x ∷ xs) =
     ∙ (ap (λ h. at h (history_from (after s x.what) xs)) (moved s x.what)
     ∙ sym (at-append s.history (added s x.what) (history_from (after s x.what) xs)))
 
--- a mark stays
+-- no step takes a mark away
 pub marked : (s : LogState) (w : What) → s.marked ≤ (after s w).marked
 marked s (Added es) = le_refl s.marked
 marked s (Sealed g zero epoch text) = le_refl s.marked
@@ -120,7 +111,8 @@ lawful s (x ∷ xs) l none now =
     (Legal-append s.history (added s x.what) (history_from s' xs ++ under_way (state_after s' xs))
     (legal-first s.history (added s x.what) (under_way s') here) rest)
 
--- What the laws say of lists from the start.
+-- OF LISTS FROM THE START: one step on, the step that it needs, and a beginning of it
+
 pub goes-on : (h : HistoryState) (xs : List Step) (x : Step) → Legal h xs → Needs (state_at h xs) x → Legal h (xs ++ x ∷ [])
 unfolding Legal state_at
 goes-on h xs x l n = joined (start_of h) xs (x ∷ []) l (n, tt)
@@ -133,6 +125,7 @@ pub begun : (h : HistoryState) (xs ys : List Step) → Begins xs ys → Legal h 
 unfolding Legal
 begun h xs ys b l = first (start_of h) xs b.0 (subst (LegalFrom (start_of h)) b.1 l)
 
+-- the state, and the history, of no steps, and one step on
 pub state-nil : (h : HistoryState) → state_at h [] ≡ start_of h
 unfolding state_at
 state-nil h = refl
@@ -151,6 +144,7 @@ unfolding history_of state_at
 history-snoc h xs x = history-append (start_of h) xs (x ∷ [])
     ∙ ap (λ l. history_from (start_of h) xs ++ l) (append-nil (added (state_after (start_of h) xs) x.what))
 
+-- the history of a beginning begins that of the whole; the state says where it stands; and it is legal, unless a commit is marked
 pub history-begins : (h : HistoryState) (xs ys : List Step) → Begins xs ys → entries.Begins (history_of h xs) (history_of h ys)
 unfolding history_of
 history-begins h xs ys b = (
@@ -168,6 +162,7 @@ pub history-lawful : (h : HistoryState) (xs : List Step) → Legal h xs → (sta
 unfolding Legal history_of state_at
 history-lawful h xs l none = lawful (start_of h) xs l none tt
 
+-- numbers of live members, and marks, only rise
 pub live-rise : (h : HistoryState) (xs ys : List Step) → Begins xs ys → Legal h ys
     → ((state_at h xs).runner ≤ (state_at h ys).runner) × ((state_at h xs).backup ≤ (state_at h ys).backup)
 unfolding Legal state_at

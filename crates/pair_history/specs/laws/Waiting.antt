@@ -5,8 +5,8 @@ use Rattle.std.specs.Prelude.{slice_get, ◌==◌}
 use Rattle.std.proofs.lemmas.Bool.Decides.{nat_tests}
 use Rattle.pair_history.specs.Entries.{Frame}
 use Rattle.pair_history.specs.HistoryState.{Waiting, inbox_of, frame_numbered, without_number, IsFirst}
-use Rattle.pair_history.specs.internal.Moves.{AreRising}
-pub use Rattle.pair_history.specs.internal.Waits.{Waits}
+use Rattle.pair_history.specs.Reached.{AreRising}
+pub use Rattle.pair_history.specs.Waits.{Waits}
 
 -- Frames that are delivered later stand behind.
 

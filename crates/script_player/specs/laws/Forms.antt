@@ -4,8 +4,9 @@ use Rattle.std.{proofs.lemmas.Slice.Eq.bytes_eq-Decides, specs.Option.{option_ma
 use Rattle.std.specs.Str.{bytes_eq}
 use Rattle.script_player.specs.{Fields.{text_after, number_of, numbered_by, operand_of, with_second, numbers_by}, Command.IsNumbered}
 use Rattle.script_player.specs.Command.{HasNumbers}
-use Rattle.script_player.proofs.{FieldLemmas.{text_after-some, operand_of-read}, OptionLemmas.{some_same, pair_parts}}
-use Rattle.script_player.proofs.OptionLemmas.{and_then_some, map_some}
+use Rattle.script_player.specs.laws.Fields.{text_after-some, operand_of-read}
+use Rattle.script_player.specs.laws.Options.{some_same, pair_parts}
+use Rattle.script_player.specs.laws.Options.{and_then_some, map_some}
 
 pub is_numbered : (front text : List ℕ) (n : ℕ) → numbered_by front text ≡ Some n → IsNumbered front n text
 is_numbered front text n h =

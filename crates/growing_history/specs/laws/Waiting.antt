@@ -5,15 +5,18 @@ use Rattle.pair_history.specs.Entries.{Entry, Arrive}
 use Rattle.pair_history.specs.HistoryState.{HistoryState, Waiting, at}
 use Rattle.pair_history.specs.Failures.{arrived_numbers, go_live_entries, fail_backup_entries}
 use Rattle.pair_history.specs.Order.{AreGuests}
-use Rattle.pair_history.specs.internal.Moves.{AreRising}
-use Rattle.pair_history.specs.internal.Waits.{AllWait, without_numbers, waits_along, number_along, AreQuiet}
-use Rattle.pair_history.proofs.WaitsLaws.{at-waits, at-number, waits-append, arrived_numbers-append, AllWait-second, rising-without_numbers}
-use Rattle.pair_history.proofs.WaitsLaws.{waits-guests, number-guests, AreGuests-arrivals, arrived_numbers-arrivals}
-use Rattle.pair_history.proofs.WaitsLaws.{waits-quiet, number-quiet}
-use Rattle.pair_history.proofs.WaitsLaws.{waits-go_live, number-go_live, waits-fail_backup, number-fail_backup}
+use Rattle.pair_history.specs.Reached.{AreRising}
+use Rattle.pair_history.specs.Waits.{AllWait, without_numbers, waits_along, number_along}
+use Rattle.pair_history.specs.laws.Waits.{at-waits, at-number, waits-append, arrived_numbers-append, AllWait-second}
+use Rattle.pair_history.specs.laws.Waits.{rising-without_numbers}
+use Rattle.pair_history.specs.laws.Waits.{waits-guests, number-guests, AreGuests-arrivals, arrived_numbers-arrivals}
+use Rattle.pair_history.specs.laws.Waits.{waits-quiet, number-quiet}
+use Rattle.pair_history.specs.laws.Waits.{waits-go_live, number-go_live, waits-fail_backup, number-fail_backup}
 use Rattle.growing_history.specs.Steps.{What, Added, Sealed, RanAlone, Committed, PrimaryFailed, BackupFailed, WentLive, Protected, Step}
+use Rattle.growing_history.specs.Waiting.{taken, StillWait, IsStill}
 use Rattle.growing_history.specs.LogState.{LogState, Epoch, Legal, start_of, state_at, after, entries_of, under_way}
-use Rattle.growing_history.proofs.{Epochs.{guests-append, guests-first}, Missed.guests-after}
+use Rattle.pair_history.specs.laws.Histories.{guests-append, guests-first}
+use Rattle.growing_history.specs.laws.Sealed.{guests-after}
 
 -- what is under way is the guest's
 pub legal-guests : (h : HistoryState) (xs : List Step) → Legal h xs → AreGuests (entries_of (state_at h xs).sealed)
@@ -22,17 +25,6 @@ legal-guests h xs l = guests-after (start_of h) xs l tt
 
 pub way-guests : (s : LogState) → AreGuests (entries_of s.sealed) → AreGuests (under_way s)
 way-guests s g = guests-append (entries_of s.sealed) (map Arrive s.handed) g (AreGuests-arrivals s.handed)
-
--- the numbers of the frames that are under way
-abbrev pub taken : LogState → List ℕ
-taken s = arrived_numbers (under_way s)
-
--- What is so of the state t after s, where nothing was delivered or dropped by the line.
-pub record StillWait (s t : LogState) : Type 0 where
-  pub number : t.history.number ≡ s.history.number
-  pub rising : (first end : ℕ) → AreRising first end s.history.waiting → AreRising first end t.history.waiting
-  pub there : AllWait (taken s) s.history.waiting → AllWait (taken t) t.history.waiting
-  pub after : (at t.history (under_way t)).waiting ≡ (at s.history (under_way s)).waiting
 
 -- where the same waits, and the same is under way
 pub same-wait : (s t : LogState) → t.history.number ≡ s.history.number → t.history.waiting ≡ s.history.waiting → under_way t ≡ under_way s
@@ -73,13 +65,6 @@ module _ (s t : LogState) (es told : List Entry) (guests : AreGuests es) (there 
         ∙ ap (waits_along s.history.waiting) (sym way)
         ∙ sym (at-waits s.history (under_way s));
   }
-
--- the steps that neither deliver nor drop by the line, nor end an epoch
-abbrev pub IsStill : What → Type 0
-IsStill (Added es) = AreQuiet es
-IsStill (Sealed g n epoch text) = ⊥
-IsStill (RanAlone epoch) = ⊥
-IsStill other = Unit {0}
 
 first-guests : (es : List Epoch) → AreGuests (entries_of es) → AreGuests (entries_of (take 1 es))
 first-guests [] g = tt

@@ -1,4 +1,4 @@
--- Laws of landing under numbers, for the crates above: in parts, and what a landing keeps.
+-- What landings under numbers keep, and that they go in two parts.
 use Rattle.std.proofs.Common.{
   ◌≡◌,
   ℕ,
@@ -23,20 +23,12 @@ use Rattle.std.proofs.Common.{
 use Rattle.std.proofs.lemmas.List.Elements.{All-head, All-tail, All-nil, All-cons}
 use Rattle.arrayvec.specs.ArrayVec.{ArrayVec}
 use Rattle.frame_ports.specs.Addresses.{IsFrame}
+use Rattle.std.proofs.Common.{slice_index_or}
 use Rattle.frame_ports.specs.Numbers.{number_of, after_landing}
 use Rattle.frame_ports.specs.Ports.{PortsState, IsPorts}
-use Rattle.frame_ports.proofs.AddressLaws.{clients_from-range}
-use Rattle.frame_ports.proofs.NumberLaws.{
-  boxes_count,
-  numbers_count,
-  next_same,
-  inboxes_same,
-  number_reaches,
-  number_other,
-  number_rises,
-  number_at_most,
-  ports-after_landing,
-}
+use Rattle.frame_ports.specs.laws.Addresses.{clients_from-range}
+use Rattle.frame_ports.specs.laws.Numbers.{boxes_count, numbers_count, next_same, inboxes_same, number_reaches, number_other}
+use Rattle.frame_ports.specs.laws.Numbers.{number_rises, number_at_most, ports-after_landing}
 use Rattle.frame_ports.specs.declared.landing.Landing.{Landing}
 use Rattle.output_gate.specs.Landings.{clients_for, landed_for, ports_after, landed_of, dropped_of, landed_count, dropped_count, HaveRisen}
 use Rattle.output_gate.specs.Landings.{told_of, told_after}
@@ -165,12 +157,13 @@ risen-after p first fs = record {
   numbers = λ c low high. number_rises-after p first fs c;
 }
 
--- what has risen twice has risen
-pub risen-twice : (p q r : PortsState) → HaveRisen p q → HaveRisen q r → HaveRisen p r
-risen-twice p q r one two = record {
-  clients = two.clients ∙ one.clients;
-  numbers = λ c low high. omega (arith, one.numbers c low high, two.numbers c low (omega (arith, one.clients)));
-}
+-- numbers that stay have risen
+module _ (p q : PortsState) (boxes : length q.boxes ≡ length p.boxes) (numbers : q.numbers ≡ p.numbers) where
+  number_same : (c : ℕ) → slice_index_or q.numbers (c - 1) 0 ≡ slice_index_or p.numbers (c - 1) 0
+  number_same c = ap (λ (l : List ℕ). slice_index_or l (c - 1) 0) numbers
+
+  pub risen-same : HaveRisen p q
+  risen-same = record { clients = boxes; numbers = λ c low high. omega (arith, number_same c) }
 
 -- one list of frames after another
 module _ (first : ℕ) where

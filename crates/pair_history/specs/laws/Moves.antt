@@ -8,11 +8,13 @@ use Rattle.pair_history.specs.Entries.{Ran, Arrive}
 use Rattle.pair_history.specs.HistoryState.{HistoryState, Waiting, inbox_of, with_arrived, without_number, at, after, Legal}
 use Rattle.pair_history.specs.HistoryState.{sent_along}
 use Rattle.pair_history.specs.Landings.{DropsAreKnown, DropsNone}
-use Rattle.pair_history.specs.internal.Moves.{Move, Steps, Arrives, entry_of, entries_of, guest_moved, frames_by, guest_along, frames_along}
-use Rattle.pair_history.specs.internal.Moves.{left_by}
-use Rattle.pair_history.specs.internal.Moves.{left, CanMove, AllCan}
-use Rattle.pair_history.proofs.States.{append-nil, targets_of-append}
-use Rattle.pair_history.proofs.Waiting.{IsFirst-more, frame_numbered-more, shorter}
+use Rattle.pair_history.specs.Order.{AreGuests}
+use Rattle.pair_history.specs.Moves.{Move, Steps, Arrives, entry_of, entries_of, guest_moved, frames_by, guest_along, frames_along}
+use Rattle.pair_history.specs.Moves.{left_by}
+use Rattle.pair_history.specs.Moves.{left, CanMove, AllCan}
+use Rattle.std.proofs.lemmas.List.{append-nil}
+use Rattle.frame_ports.specs.laws.Addresses.{targets_of-append}
+use Rattle.pair_history.specs.laws.Waiting.{IsFirst-more, frame_numbered-more, shorter}
 
 pub guest_along-append : (g : Guest) (ms ns : List Move) → guest_along g (ms ++ ns) ≡ guest_along (guest_along g ms) ns
 guest_along-append g [] ns = refl
@@ -101,3 +103,9 @@ pub left-shorter : (c : ℕ) (ws : List Waiting) (ms : List Move) → length (in
 left-shorter c ws [] = omega arith
 left-shorter c ws (Steps ∷ ms) = left-shorter c ws ms
 left-shorter c ws (Arrives n f ∷ ms) = omega (arith, left-shorter c (without_number n ws) ms, shorter c n ws)
+
+-- what epochs keep are the guest's own entries
+pub AreGuests-moves : (ms : List Move) → AreGuests (entries_of ms)
+AreGuests-moves [] = tt
+AreGuests-moves (Steps ∷ ms) = (tt, AreGuests-moves ms)
+AreGuests-moves (Arrives n f ∷ ms) = (tt, AreGuests-moves ms)

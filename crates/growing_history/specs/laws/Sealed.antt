@@ -1,23 +1,16 @@
--- The numbers of what is sealed: the epochs follow one another up to the next checkpoint's, and a node that is alone has none.
-use Rattle.std.proofs.Common.{◌≡◌, ℕ, zero, suc, ◌+◌, ◌-◌, List, [], ◌∷◌, ◌++◌, length, drop, refl, sym, ap, ◌∙◌, subst, arith, ◌<◌}
-use Rattle.std.proofs.lemmas.List.{length-append}
+-- What is sealed: its numbers follow one another, and its entries are the guest's.
+use Rattle.std.proofs.Common.{◌≡◌, ℕ, zero, suc, ◌+◌, ◌-◌, List, [], ◌∷◌, ◌++◌, length, drop, refl, sym, ap, ◌∙◌, subst, append_assoc}
+use Rattle.std.proofs.Common.{arith, ◌<◌}
+use Rattle.std.proofs.lemmas.List.{append-nil, length-append}
 use Rattle.failover.specs.declared.mode.Mode.{Mode}
 use Rattle.failover.specs.declared.mode.Mode.TheVariants.{Paired, Filling, Alone, Stopped}
 use Rattle.pair_history.specs.HistoryState.{HistoryState}
+use Rattle.pair_history.specs.Order.{AreGuests}
+use Rattle.pair_history.specs.laws.Histories.{guests-append, guests-second}
 use Rattle.growing_history.specs.Steps.{What, Added, Sealed, RanAlone, Committed, PrimaryFailed, BackupFailed, WentLive, Protected, Step}
 use Rattle.growing_history.specs.LogState.{LogState, Epoch, start_of, IsAlone, HasBackup, IsFirstSealed, MaySeal, mode_filled, after, Needs}
-use Rattle.growing_history.specs.LogState.{state_after, LegalFrom, Legal, state_at}
-
--- the epochs have consecutive numbers from n on
-abbrev pub FollowFrom : ℕ → List Epoch → Type 0
-FollowFrom n [] = Unit {0}
-FollowFrom n (e ∷ es) = (e.number ≡ n) × FollowFrom (n + 1) es
-
-pub record AreSealed (s : LogState) : Type 0 where
-  pub first : ℕ
-  pub numbers : FollowFrom first s.sealed
-  pub count : first + length s.sealed ≡ s.next
-  pub alone : IsAlone s.mode → s.sealed ≡ []
+use Rattle.growing_history.specs.SealedNumbers.{FollowFrom, AreSealed}
+use Rattle.growing_history.specs.LogState.{MayStep, entries_of, state_after, LegalFrom, Legal, state_at}
 
 follow-push : (n : ℕ) (es : List Epoch) (e : Epoch) → FollowFrom n es → e.number ≡ n + length es → FollowFrom n (es ++ e ∷ [])
 follow-push n [] e h k = (omega (arith, k), tt)
@@ -105,3 +98,33 @@ first-sealed h xs l n count some =
         → n + length es ≡ (state_at h xs).next → IsFirstSealed n es
     by_list [] first f c d = absurd (omega (arith, d, some))
     by_list (e ∷ es) first f c d = omega (arith, f.0, c, d)
+
+-- WHAT THE GUEST DID is sealed, and nothing else
+
+pub entries-append : (xs ys : List Epoch) → entries_of (xs ++ ys) ≡ entries_of xs ++ entries_of ys
+entries-append [] ys = refl
+entries-append (e ∷ xs) ys = ap (λ l. e.entries ++ l) (entries-append xs ys) ∙ sym (append_assoc e.entries (entries_of xs) (entries_of ys))
+
+rest-guests : (es : List Epoch) → AreGuests (entries_of es) → AreGuests (entries_of (drop 1 es))
+rest-guests [] g = tt
+rest-guests (e ∷ es) g = guests-second e.entries (entries_of es) g
+
+pub sealed-guests : (s : LogState) (by : ℕ) (w : What) → MayStep s by w → AreGuests (entries_of s.sealed)
+    → AreGuests (entries_of (after s w).sealed)
+sealed-guests s by (Added es) m g = g
+sealed-guests s by (Sealed x zero epoch text) m g = tt
+sealed-guests s by (Sealed x (suc n) epoch text) m g =
+    let e : Epoch = record { number = suc n; entries = epoch; text = text } in
+    subst AreGuests (sym (entries-append s.sealed (e ∷ [])))
+    (guests-append (entries_of s.sealed) (epoch ++ []) g (subst AreGuests (sym (append-nil epoch)) m.4.0))
+sealed-guests s by (RanAlone epoch) m g = g
+sealed-guests s by (Committed x n text) m g = rest-guests s.sealed g
+sealed-guests s by PrimaryFailed m g = g
+sealed-guests s by BackupFailed m g = tt
+sealed-guests s by (WentLive r) m g = tt
+sealed-guests s by (Protected b) m g = g
+
+pub guests-after : (s : LogState) (xs : List Step) → LegalFrom s xs → AreGuests (entries_of s.sealed)
+    → AreGuests (entries_of (state_after s xs).sealed)
+guests-after s [] l g = g
+guests-after s (x ∷ xs) l g = guests-after (after s x.what) xs l.1 (sealed-guests s x.by x.what l.0.may g)

@@ -1,18 +1,19 @@
 -- What waits, and the next number, along entries: steps, landings, takes, refusals and drops out of boxes don't matter.
 use Rattle.std.proofs.Common.{◌≡◌, ◌≢◌, ℕ, ◌+◌, Bool, true, false, cond, List, [], ◌∷◌, ◌++◌, map, refl, sym, ap, ◌∙◌, subst}
-use Rattle.std.proofs.Common.{Some, None}
+use Rattle.std.proofs.Common.{◌≤◌, length, arith, Some}
+use Rattle.std.proofs.lemmas.Bool.Decides.{nat_tests}
 use Rattle.frame_ports.specs.Lands.{has_room, landed_at}
 use Rattle.frame_ports.specs.Limits.{box_frames}
 use Rattle.pair_history.specs.Entries.{Frame, Entry, Ran, Arrive, Delivered, Refused, DropIn, Land, DropOut, Took}
 use Rattle.pair_history.specs.HistoryState.{HistoryState, Waiting, frame_numbered, without_number, at, after}
-use Rattle.pair_history.specs.Failures.{arrived_numbers, rising, drops_of_taken_in, all_land, go_live_entries, fail_backup_entries}
+use Rattle.pair_history.specs.Failures.{arrived_numbers, put_rising, rising, drops_of_taken_in, all_land, go_live_entries}
+use Rattle.pair_history.specs.Failures.{fail_backup_entries}
 use Rattle.pair_history.specs.Landings.{landings}
 use Rattle.pair_history.specs.Order.{AreGuests}
-use Rattle.pair_history.specs.internal.Moves.{AreRising}
-use Rattle.pair_history.specs.internal.Waits.{Waits, without_numbers, AllWait, waits_after, waits_along, number_after, number_along}
-use Rattle.pair_history.specs.internal.Waits.{IsQuiet, AreQuiet}
-use Rattle.pair_history.proofs.Waiting.{AreRising-without, found-without, frame_numbered-more, without-swaps, gone}
-use Rattle.pair_history.proofs.TakenInLaws.{without_numbers-rising}
+use Rattle.pair_history.specs.Reached.{AreRising}
+use Rattle.pair_history.specs.Waits.{Waits, without_numbers, AllWait, waits_after, waits_along, number_after, number_along}
+use Rattle.pair_history.specs.Waits.{IsQuiet, AreQuiet}
+use Rattle.pair_history.specs.laws.Waiting.{AreRising-without, found-without, frame_numbered-more, without-swaps, gone}
 
 -- WHAT A STATE SAYS OF IT
 
@@ -58,6 +59,11 @@ pub arrived_numbers-append : (xs ys : List Entry) → arrived_numbers (xs ++ ys)
 arrived_numbers-append [] ys = refl
 arrived_numbers-append (Arrive n ∷ xs) ys = ap (λ l. n ∷ l) (arrived_numbers-append xs ys)
 arrived_numbers-append (other ∷ xs) ys = arrived_numbers-append xs ys
+
+pub arrived-few : (es : List Entry) → length (arrived_numbers es) ≤ length es
+arrived-few [] = omega arith
+arrived-few (Arrive n ∷ es) = let l = arrived-few es in omega arith
+arrived-few (other ∷ es) = let l = arrived-few es in omega arith
 
 pub without_numbers-append : (ns ms : List ℕ) (ws : List Waiting)
     → without_numbers (ns ++ ms) ws ≡ without_numbers ms (without_numbers ns ws)
@@ -135,6 +141,15 @@ waits-drops ws (n ∷ ns) = waits-drops (without_number n ws) ns
 pub number-drops : (n : ℕ) (ns : List ℕ) → number_along n (map DropIn ns) ≡ n
 number-drops n [] = refl
 number-drops n (m ∷ ns) = number-drops n ns
+
+without_numbers-put : (n : ℕ) (ns : List ℕ) (ws : List Waiting) → without_numbers (put_rising n ns) ws ≡ without_numbers (n ∷ ns) ws
+without_numbers-put n [] ws = refl
+without_numbers-put n (m ∷ ns) ws =
+    grind (arith, nat_tests, without_numbers-put n ns (without_number m ws), without-swaps n m ws)
+
+pub without_numbers-rising : (ns : List ℕ) (ws : List Waiting) → without_numbers (rising ns) ws ≡ without_numbers ns ws
+without_numbers-rising [] ws = refl
+without_numbers-rising (n ∷ ns) ws = without_numbers-put n (rising ns) ws ∙ without_numbers-rising ns (without_number n ws)
 
 -- where the backup goes live
 pub waits-go_live : (ws : List Waiting) (s : HistoryState) (way : List Entry) → AreGuests way

@@ -4,7 +4,6 @@ use Rattle.guest_machine.specs.Guest.{Guest}
 use Rattle.guest_machine.specs.Step.{next, sent, arrived}
 use Rattle.pair_history.specs.Entries.{Frame, Entry, Ran, Arrive}
 use Rattle.pair_history.specs.HistoryState.{Waiting, frame_numbered, without_number, IsFirst}
-pub use Rattle.pair_history.specs.Reached.{AreRising}
 
 -- What an epoch keeps: the guest's steps, and the frames that arrived at it.
 pub data Move : Type 0 where

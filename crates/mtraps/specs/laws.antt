@@ -1,0 +1,3 @@
+-- Laws of these definitions, which the proofs above cite: each is a fact of a line or two, and its proof stands below it.
+pub mod Masks
+pub mod Due

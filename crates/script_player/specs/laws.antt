@@ -1,0 +1,5 @@
+-- Laws of these definitions, which the proofs above cite: each is a fact of a line or two, and its proof stands below it.
+pub mod Options
+pub mod Fields
+pub mod Forms
+pub mod Written
