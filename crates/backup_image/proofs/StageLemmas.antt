@@ -1,10 +1,10 @@
 -- What is staged, and what a commit makes of it.
 use Rattle.std.proofs.{Common.{◌≡◌, ℕ, ◌<◌, Bool, true, false, if◌then◌else◌, refl, ap, arith}, lemmas.Bool.Decides.nat_tests}
 use Rattle.std.specs.Prelude.{nat_lt, Option, Some, Result, Ok, Err}
-use Rattle.epoch_snapshot.specs.Checkpoints.{Change}
+use Rattle.epoch_snapshot.specs.Checkpoints.{Change, is_old_delta}
 use Rattle.backup_image.specs.declared.{errors.ImageError.{ImageError, TheVariants.{Exhausted, OldVersion}}, standing.Staged.Staged}
 use Rattle.backup_image.specs.declared.standing.Staged.TheVariants.{New, Again}
-use Rattle.backup_image.specs.{Images.{ImageState, answer_at, is_old_delta, if_numbered, staged_after}, Kept.sent_with, Limits.number_limit}
+use Rattle.backup_image.specs.{Images.{ImageState, answer_at, if_numbered, staged_after}, Kept.sent_with, Limits.number_limit}
 use Rattle.backup_image.specs.Images.{stage_answer, after_stage, applied, committed}
 
 -- what isn't new leaves what was staged

@@ -3,7 +3,7 @@ use Rattle.std.specs.Prelude.{ℕ, ◌+◌, ◌==◌, Bool, ◌&&◌, not, if◌
 use Rattle.std.specs.Prelude.{Ok, Err}
 use Rattle.guest_machine.specs.declared.shapes.Shape.{Shape}
 use Rattle.guest_machine.specs.Guest.{Guest, State, boot_guest}
-use Rattle.epoch_snapshot.specs.Checkpoints.{Change}
+use Rattle.epoch_snapshot.specs.Checkpoints.{Change, is_old_delta}
 use Rattle.epoch_snapshot.specs.Images.{image_of}
 use Rattle.arrayvec.specs.ArrayVec.{ArrayVec}
 use Rattle.backup_image.specs.declared.errors.ImageError.{ImageError}
@@ -60,10 +60,6 @@ answer_at (Some at) generation number =
     else if nat_lt (at.number + 1) number then Err Gap
     else if number == at.number + 1 then Ok New
     else Ok Again
-
--- a delta of version 1: it carries no frames, so what its guest sent could never be said. A full one stands for no epoch
-abbrev pub is_old_delta : Change → Bool
-is_old_delta c = c.version == 1 && not (c.number == 0)
 
 -- a new one is refused, last, where its last frame would have this number and that reaches the limit
 abbrev pub if_numbered : ℕ → Result Staged ImageError → Result Staged ImageError

@@ -20,10 +20,10 @@ use Rattle.growing_history.specs.LogState.{sealed_state, state_at}
 use Rattle.growing_history.specs.SealedTexts.{Makes}
 use Rattle.growing_history.specs.Views.{Member}
 use Rattle.pair_book.specs.declared.failures.Ack.{Ack}
-use Rattle.pair_book.specs.Commits.{WasRead, StandsBy, kept_with, sent_with, first_with}
+use Rattle.pair_book.specs.Commits.{WasRead, StandsAfterNext, kept_then, sent_then, first_then}
 use Rattle.pair_book.specs.Made.{IsShape, Reads, carried}
 use Rattle.pair_book.specs.Packets.{PacketState}
-use Rattle.pair_book.specs.Settled.{Runs, runner_state, just_settled}
+use Rattle.pair_book.specs.Settled.{Runs, runner_outside, settled_runner}
 use Rattle.pair_book.specs.Standing.{KeepsFrames, Stands, first_ack, last_four}
 use Rattle.book_tests.specs.Machines.{IsLike}
 
@@ -38,8 +38,8 @@ steps-send zero h = refl
 steps-send (suc n) h = ap (λ l. sent h.guest ++ l) (steps-send n (after h Ran))
 
 -- it had settled with this guest
-pub runs-steps : (start : HistoryState) (seat : Member) (g : Guest) (n : ℕ) (m : State) → Runs start seat (just_settled g [])
-    → m.guest ≡ after_steps n g → m.outbox ≡ sent_in n g → Runs start seat (runner_state 0 n [] m.guest m.outbox g)
+pub runs-steps : (start : HistoryState) (seat : Member) (g : Guest) (n : ℕ) (m : State) → Runs start seat (settled_runner g [])
+    → m.guest ≡ after_steps n g → m.outbox ≡ sent_in n g → Runs start seat (runner_outside 0 n [] m.guest m.outbox g)
 runs-steps start seat g n m runs is sends =
     let s = state_at start seat.steps in
     record {
@@ -122,20 +122,20 @@ module _ (start : HistoryState) (c : Change) (ack : Ack) (seat seat' : Member) (
   not-full : (c.number == 0) ≡ false
   not-full = ap (λ (k : ℕ). k == 0) one
 
-  kept : kept_with c [] ≡ c.frames ∷ []
+  kept : kept_then c [] ≡ c.frames ∷ []
   kept = ap (λ (t : Bool). last_four ((if t then [] else []) ++ c.frames ∷ [])) not-full
 
-  count : sent_with c 0 ≡ length c.frames
+  count : sent_then c 0 ≡ length c.frames
   count =
       ap (λ (t : Bool). (if t then 0 else 0) + length c.frames) not-full
       ∙ (let plain : 0 + length c.frames ≡ length c.frames = omega arith in plain)
 
-  first : first_with c 0 [] ≡ 1
+  first : first_then c 0 [] ≡ 1
   first =
       (λ i. count i + 1 - length (all_frames (kept i)))
       ∙ (let none = ap (λ (l : List Frame). length l) (append-nil c.frames) in omega (arith, none))
 
-  pub keeps-first : StandsBy start c ack seat seat' → WasRead c → IsShape start c.shape
+  pub keeps-first : StandsAfterNext start c ack seat seat' → WasRead c → IsShape start c.shape
       → Stands start seat start.guest (Some first_ack) 0 1 [] → KeepsFrames start seat' (length c.frames) 1 (c.frames ∷ [])
   keeps-first by read shape stood =
       subst (λ (x : ℕ × ℕ × List (List Frame)). KeepsFrames start seat' x.0 x.1 x.2) (λ i. (count i, first i, kept i))

@@ -3,7 +3,7 @@ use Rattle.std.proofs.Common.{◌≡◌, ℕ, [], length, sym, ap, ◌∙◌, su
 use Rattle.guest_machine.specs.Guest.{Guest, boot_guest}
 use Rattle.pair_history.specs.HistoryState.{HistoryState, start_state}
 use Rattle.growing_history.specs.{LogState.first_runner, Views.Member}
-use Rattle.pair_book.specs.Settled.{Runs, just_settled}
+use Rattle.pair_book.specs.Settled.{Runs, settled_runner}
 use Rattle.book_tests.specs.Machines.{IsLike}
 
 module _ (start : HistoryState) (clients : ℕ) (is : start ≡ start_state 1 1 [] clients) (g : Guest) (boot : g ≡ boot_guest 1 1 []) where
@@ -14,6 +14,6 @@ module _ (start : HistoryState) (clients : ℕ) (is : start ≡ start_state 1 1 
   still-like = record { ram = ap (λ (h : Guest). length h.ram) there; sectors = ap (λ (h : Guest). length h.sectors) there }
 
   pub still-runs : (seat : Member) → seat ≡ record { number = first_runner; steps = [] }
-      → Runs start (record { number = first_runner; steps = [] }) (just_settled start.guest []) → Runs start seat (just_settled g [])
+      → Runs start (record { number = first_runner; steps = [] }) (settled_runner start.guest []) → Runs start seat (settled_runner g [])
   still-runs seat first runs =
-      subst (λ (x : Member × Guest). Runs start x.0 (just_settled x.1 [])) (λ i. (sym first i, there i)) runs
+      subst (λ (x : Member × Guest). Runs start x.0 (settled_runner x.1 [])) (λ i. (sym first i, there i)) runs

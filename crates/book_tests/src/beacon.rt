@@ -8,9 +8,9 @@ ghost use Rattle.guest_machine.specs.Runs.{after_steps, sent_in, marked_in};
 ghost use Rattle.pair_history.specs.Entries.{Frame};
 ghost use Rattle.pair_history.specs.HistoryState.{start_state};
 ghost use Rattle.growing_history.specs.LogState.{first_runner, first_backup};
-ghost use Rattle.pair_book.specs.Commits.{WasRead, StandsBy};
+ghost use Rattle.pair_book.specs.Commits.{WasRead, StandsAfterNext};
 ghost use Rattle.pair_book.specs.Made.{IsShape, IsPrepared};
-ghost use Rattle.pair_book.specs.Settled.{IsSettled, Runs, RunsOn, just_settled};
+ghost use Rattle.pair_book.specs.Settled.{EpochFollows, Runs, RunsOn, settled_runner};
 ghost use Rattle.pair_book.specs.Standing.{KeepsFrames};
 ghost use Rattle.book_tests.specs.Machines.{IsLike};
 
@@ -25,7 +25,7 @@ use growing_history::{BackupSeat, Clock, Pair, RunnerSeat};
 use guest_kit::beacon;
 use guest_machine::{Machine, Shape, changed_sectors_are_listed, kept_disk, kept_memory};
 use pair_book::{
-    Ack, Book, Kind, Loss, Next, OpenEpoch, Packet, Prepared, Refusal, UnnamedBook, Want,
+    Ack, Book, Kind, Lost, Next, OpenEpoch, Prepared, Refusal, TextPacket, UnnamedBook, Want,
     members_begin, runners_bring_what_they_have,
 };
 use pair_history::Frame;
@@ -66,10 +66,10 @@ fn a_frame_lands_at_its_acknowledgement(rt: HostRuntime) -> Result<(), Fail> {
 #[test]
 fn a_landed_frame_is_lost(rt: HostRuntime) -> Result<(), Fail> {
     static ROWS: [Row; 6] = [
-        (Call::LoseOut(1, 0), Ok(Answer::Loss(Loss::Empty))),
+        (Call::LoseOut(1, 0), Ok(Answer::Loss(Lost::Empty))),
         (Call::Acked(1, 1), Ok(Answer::Number(1))),
-        (Call::LoseOut(1, 0), Ok(Answer::Loss(Loss::Dropped))),
-        (Call::LoseOut(1, 0), Ok(Answer::Loss(Loss::Empty))),
+        (Call::LoseOut(1, 0), Ok(Answer::Loss(Lost::Dropped))),
+        (Call::LoseOut(1, 0), Ok(Answer::Loss(Lost::Empty))),
         (Call::Take(1), Ok(Answer::None)),
         (Call::Entries, Ok(Answer::Number(25))),
     ];
@@ -99,7 +99,7 @@ fn a_held_frame_lands_where_the_backup_fails(rt: HostRuntime) -> Result<(), Fail
         (Call::FailBackup, Ok(Answer::Number(1))),
         (Call::Take(1), Ok(Answer::Beacon)),
         (Call::SubmitNone, Ok(Answer::Number(1))),
-        (Call::LoseIn(1, 0), Ok(Answer::Loss(Loss::Empty))),
+        (Call::LoseIn(1, 0), Ok(Answer::Loss(Lost::Empty))),
         (Call::Entries, Ok(Answer::Number(25))),
     ];
     answers(&rt, rt.alloc(), 22, &ROWS)
@@ -124,10 +124,10 @@ fn a_history_has_no_more_numbers(rt: HostRuntime) -> Result<(), Fail> {
         (Call::Deliver(14), Err(Refusal::Exhausted)),
         (Call::Take(1), Err(Refusal::Exhausted)),
         (Call::LoseIn(3, 0), Err(Refusal::NoClient)),
-        (Call::LoseIn(1, 8), Ok(Answer::Loss(Loss::Empty))),
+        (Call::LoseIn(1, 8), Ok(Answer::Loss(Lost::Empty))),
         (Call::LoseIn(1, 3), Err(Refusal::Exhausted)),
         (Call::LoseOut(3, 0), Err(Refusal::NoClient)),
-        (Call::LoseOut(1, 0), Ok(Answer::Loss(Loss::Empty))),
+        (Call::LoseOut(1, 0), Ok(Answer::Loss(Lost::Empty))),
         (Call::Acked(2, 1), Err(Refusal::Stale)),
         (Call::Acked(1, 2), Err(Refusal::Gap)),
         (Call::Acked(1, 1), Err(Refusal::Exhausted)),
@@ -229,7 +229,7 @@ fn a_loss_of_a_box_has_no_number(rt: HostRuntime) -> Result<(), Fail> {
         (Call::Deliver(14), Ok(Answer::Number(5))),
         (Call::Deliver(14), Ok(Answer::Number(6))),
         (Call::Deliver(14), Ok(Answer::Number(7))),
-        (Call::LoseOut(1, 1), Ok(Answer::Loss(Loss::Empty))),
+        (Call::LoseOut(1, 1), Ok(Answer::Loss(Lost::Empty))),
         (Call::LoseOut(1, 0), Err(Refusal::Exhausted)),
         (Call::FailBackup, Ok(Answer::Number(0))),
         (Call::Entries, Ok(Answer::Number(NUMBER_LIMIT - 1))),
@@ -248,16 +248,16 @@ fn beacon_image(alloc: Global) -> Result<Vec<u8>, Fail>
 }
 
 /// This checkpoint's text. Where memory is refused it is made once more.
-fn packet_of(alloc: Global, checkpoint: &Checkpoint) -> Result<Packet, Fail>
+fn packet_of(alloc: Global, checkpoint: &Checkpoint) -> Result<TextPacket, Fail>
     requires { checkpoint.now.version ≡ 2 }
     ensures number { IfOk result (λ p. p.number ≡ checkpoint.now.number) }
     ensures text { IfOk result (λ p. p.text ≡ text checkpoint.now) }
     ensures read { IfOk result (λ p. ReadsBack checkpoint.now p.text) }
 {
-    if let Ok(packet) = Packet::new(alloc, checkpoint) {
+    if let Ok(packet) = TextPacket::new(alloc, checkpoint) {
         return Ok(packet);
     }
-    Ok(Packet::new(alloc, checkpoint)?)
+    Ok(TextPacket::new(alloc, checkpoint)?)
 }
 
 /// The machine of that image after so many steps from boot on.
@@ -298,7 +298,7 @@ fn submit<P: Pair, R: Abort>(
     frames: &[Frame],
     what: &Prepared,
 ) -> Result<Next, Fail>
-    requires settled { IsSettled P.start runner.old 0 steps frames.now }
+    requires settled { EpochFollows P.start runner.old 0 steps frames.now }
     requires prepared { IsPrepared P.start runner.old 0 steps frames.now what.now }
     requires few { length frames.now ≤ 256 }
     requires frames { All IsFrame frames.now }
@@ -334,7 +334,7 @@ fn seal<P: Pair, R: Abort>(
     requires dirty { machine.now.dirty ≡ marked_in steps P.start.guest [] }
     requires settled { machine.now.settled ≡ P.start.guest.ram }
     requires seat { runner.old ≡ record { number = first_runner; steps = [] } }
-    ensures runs { OnOk result ((held : List (ℕ × Frame)) × Runs P.start runner.new (just_settled machine.now.guest held)) }
+    ensures runs { OnOk result ((held : List (ℕ × Frame)) × Runs P.start runner.new (settled_runner machine.now.guest held)) }
     ensures like { OnOk result (IsLike P.start machine.now.guest) }
     ensures read { IfOk result (λ c. WasRead c) }
     ensures shape { IfOk result (λ c. IsShape P.start c.shape) }
@@ -374,7 +374,7 @@ fn seal_first<P: Pair, R: Abort>(
     requires start { (clients : ℕ) × (P.start ≡ start_state 2 1 image.now clients) }
     requires size { length image.now ≤ 8192 }
     requires seat { runner.old ≡ record { number = first_runner; steps = [] } }
-    ensures runs { IfOk result (λ s. (held : List (ℕ × Frame)) × Runs P.start runner.new (just_settled s.machine held)) }
+    ensures runs { IfOk result (λ s. (held : List (ℕ × Frame)) × Runs P.start runner.new (settled_runner s.machine held)) }
     ensures like { IfOk result (λ s. IsLike P.start s.machine) }
     ensures read { IfOk result (λ s. WasRead s.checkpoint.value) }
     ensures shape { IfOk result (λ s. IsShape P.start s.checkpoint.value.shape) }
@@ -399,7 +399,7 @@ fn commit<P: Pair, R: Abort>(
     backup: &mut BackupSeat<P>,
     checkpoint: &Checkpoint,
 ) -> Result<Ack, Fail>
-    ensures { IfOk result (λ ack. StandsBy P.start checkpoint.now ack backup.old backup.new) }
+    ensures { IfOk result (λ ack. StandsAfterNext P.start checkpoint.now ack backup.old backup.new) }
 {
     if book.is_earlier(checkpoint) {
         return Err("it is the next one".into());
@@ -465,7 +465,7 @@ fn commit_epoch<P: Pair, R: Abort>(
     requires size { length image.now ≤ 8192 }
     requires runner { seated.old.runner ≡ record { number = first_runner; steps = [] } }
     requires backup { seated.old.backup ≡ record { number = first_backup; steps = [] } }
-    ensures runs { IfOk result (λ x. (held : List (ℕ × Frame)) × Runs P.start seated.new.runner (just_settled x.machine held)) }
+    ensures runs { IfOk result (λ x. (held : List (ℕ × Frame)) × Runs P.start seated.new.runner (settled_runner x.machine held)) }
     ensures like { IfOk result (λ x. IsLike P.start x.machine) }
     ensures frames { IfOk result (λ x. All (λ v. All IsFrame v.items) x.kept.items) }
     ensures keeps { IfOk result (λ x. (sent : ℕ) × KeepsFrames P.start seated.new.backup sent 1 (map (λ v. v.items) x.kept.items)) }

@@ -1,7 +1,7 @@
 //! What no clause says of the calls: that they succeed where there is memory. The guest makes no step here, so what it sends is known
 //! without running it.
 use crate::rows::{Answer, By, Call, Read, Row, answers};
-use pair_book::{Kind, Loss, Refusal};
+use pair_book::{Kind, Lost, Refusal};
 use std::test::*;
 
 #[test]
@@ -10,10 +10,10 @@ fn a_frame_is_delivered_and_lost(rt: HostRuntime) -> Result<(), Fail> {
         (Call::Seats, Ok(Answer::Seats([1, 2, 3, 4, 5]))),
         (Call::Deliver(14), Ok(Answer::Number(1))),
         (Call::Deliver(13), Err(Refusal::BadFrame)),
-        (Call::LoseIn(1, 0), Ok(Answer::Loss(Loss::Dropped))),
-        (Call::LoseIn(1, 0), Ok(Answer::Loss(Loss::Empty))),
+        (Call::LoseIn(1, 0), Ok(Answer::Loss(Lost::Dropped))),
+        (Call::LoseIn(1, 0), Ok(Answer::Loss(Lost::Empty))),
         (Call::LoseIn(3, 0), Err(Refusal::NoClient)),
-        (Call::LoseOut(1, 0), Ok(Answer::Loss(Loss::Empty))),
+        (Call::LoseOut(1, 0), Ok(Answer::Loss(Lost::Empty))),
         (Call::LoseOut(3, 0), Err(Refusal::NoClient)),
         (Call::Take(2), Ok(Answer::None)),
         (Call::Entries, Ok(Answer::Number(3))),

@@ -5,7 +5,7 @@ ghost use Rattle.pair_history.specs.Entries.{Frame};
 ghost use Rattle.pair_history.specs.HistoryState.{start_state};
 ghost use Rattle.growing_history.specs.LogState.{first_runner, first_backup};
 ghost use Rattle.pair_book.specs.Opening.{IsBoot};
-ghost use Rattle.pair_book.specs.Settled.{Runs, just_settled};
+ghost use Rattle.pair_book.specs.Settled.{Runs, settled_runner};
 ghost use Rattle.pair_book.specs.Standing.{KeepsFrames};
 ghost use Rattle.book_tests.specs.Machines.{IsLike};
 
@@ -87,7 +87,7 @@ pub(crate) fn host_of<P: Pair>(
     kept: Vec<FrameList>,
 ) -> Result<Box<Host<P>>, Fail>
     requires like { IsLike P.start machine }
-    requires runs { (held : List (ℕ × Frame)) × Runs P.start seated.value.runner (just_settled machine held) }
+    requires runs { (held : List (ℕ × Frame)) × Runs P.start seated.value.runner (settled_runner machine held) }
     requires frames { All (λ v. All IsFrame v.items) kept.items }
     requires keeps { (sent : ℕ) × KeepsFrames P.start seated.value.backup sent 1 (map (λ v. v.items) kept.items) }
 {

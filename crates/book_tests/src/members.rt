@@ -92,7 +92,7 @@ impl<P: Pair> Model for Runner<P> {
     ghost use Rattle.std.specs.Prelude.{ℕ, List};
     ghost use Rattle.pair_history.specs.Entries.{Frame};
     ghost use Rattle.growing_history.specs.Views.{Member};
-    ghost use Rattle.pair_book.specs.Settled.{Runs, just_settled};
+    ghost use Rattle.pair_book.specs.Settled.{Runs, settled_runner};
     ghost use Rattle.book_tests.specs.Machines.{IsLike};
 
     ghost Value = { Member };
@@ -100,7 +100,7 @@ impl<P: Pair> Model for Runner<P> {
     ghost view = { λ r. r.seat };
 
     // It holds some of the frames that were handed out to it.
-    ghost invariant = { λ r. IsLike P.start r.machine × (held : List (ℕ × Frame)) × Runs P.start r.seat (just_settled r.machine held) };
+    ghost invariant = { λ r. IsLike P.start r.machine × (held : List (ℕ × Frame)) × Runs P.start r.seat (settled_runner r.machine held) };
 }
 
 impl<P: Pair> Runner<P> {

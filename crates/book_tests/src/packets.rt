@@ -5,7 +5,7 @@ use crate::asserts::{holds, same};
 use crate::prepared::{SHAPE, read_back};
 use epoch_snapshot::{Checkpoint, cut_full};
 use guest_machine::Machine;
-use pair_book::Packet;
+use pair_book::TextPacket;
 use std::alloc::Global;
 use std::process::Abort;
 use std::test::*;
@@ -30,7 +30,7 @@ fn full(alloc: Global) -> Result<Box<Checkpoint>, Fail>
 }
 
 /// The parts of what this packet is read back as.
-fn read_parts(alloc: Global, packet: &Packet) -> Result<(u64, u64, u32, usize), Fail> {
+fn read_parts(alloc: Global, packet: &TextPacket) -> Result<(u64, u64, u32, usize), Fail> {
     let read = read_back(alloc, SHAPE, packet.bytes()).ok_or("a whole checkpoint")?;
     Ok(parts(&read))
 }
@@ -39,7 +39,7 @@ fn read_parts(alloc: Global, packet: &Packet) -> Result<(u64, u64, u32, usize), 
 fn assert_reads_back(
     rt: &impl Abort,
     alloc: Global,
-    packet: &Packet,
+    packet: &TextPacket,
     pages: usize,
 ) -> Result<(), Fail> {
     let found = read_parts(alloc, packet)?;
@@ -51,7 +51,7 @@ fn assert_reads_back(
 fn a_packet_reads_back(rt: HostRuntime) -> Result<(), Fail> {
     let checkpoint = full(rt.alloc())?;
     let pages = checkpoint.pages().len();
-    let packet = Packet::new(rt.alloc(), &*checkpoint)?;
+    let packet = TextPacket::new(rt.alloc(), &*checkpoint)?;
     same(&rt, "the generation", packet.generation(), 5);
     same(&rt, "the number", packet.number(), 0);
     let other = packet.share()?;

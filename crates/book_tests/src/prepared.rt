@@ -11,7 +11,7 @@ use epoch_snapshot::{Checkpoint, SnapshotError, cut_delta, cut_full};
 use frame_ports::NUMBER_LIMIT;
 use guest_machine::{Machine, Shape};
 use memory_wanted::from_slice;
-use pair_book::Packet;
+use pair_book::TextPacket;
 use std::alloc::Global;
 use std::marker::Model;
 use std::test::Fail;
@@ -114,12 +114,12 @@ impl SettledMachine {
     }
 
     /// That checkpoint's text.
-    pub(crate) fn packet(&self, alloc: Global, generation: u64, number: u64) -> Option<Packet>
+    pub(crate) fn packet(&self, alloc: Global, generation: u64, number: u64) -> Option<TextPacket>
         ensures { IfSome result (λ p. (start : HistoryState) → IsLike start self.now
             → Makes (Reads start) p.number p.text (carried p.number []) self.now self.now) }
     {
         let checkpoint = self.checkpoint(alloc, generation, number)?;
-        match Packet::new(alloc, &*checkpoint) {
+        match TextPacket::new(alloc, &*checkpoint) {
             Ok(packet) => Some(packet),
             Err(_) => None,
         }

@@ -5,7 +5,7 @@ ghost use Rattle.pair_history.specs.HistoryState.{start_state};
 use crate::asserts::{holds, holds_at};
 use crate::hosts::{Host, opened};
 use growing_history::Pair;
-use pair_book::{Kind, Loss, Refusal, UnnamedBook, Want};
+use pair_book::{Kind, Lost, Refusal, UnnamedBook, Want};
 use std::alloc::Global;
 use std::marker::Brand;
 use std::process::Abort;
@@ -80,7 +80,7 @@ pub(crate) enum Answer {
     Beacon,
     /// Another frame. No row wants it.
     Frame,
-    Loss(Loss),
+    Loss(Lost),
     /// The kind that is wanted, with its generation and number.
     Want(Kind, u64, u64),
     /// The generation and the number that are acknowledged.

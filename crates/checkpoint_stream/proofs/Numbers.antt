@@ -3,7 +3,7 @@ use Rattle.std.proofs.Common.{◌≡◌, ℕ, ◌<◌, ◌^◌, List, [], ◌∷
 use Rattle.std.proofs.lemmas.{List.Elements.{All-head, All-tail}, Nat.{from_le_bytes-to_le_bytes_2, from_le_bytes-to_le_bytes_4}}
 use Rattle.std.proofs.lemmas.Nat.{from_le_bytes-to_le_bytes_8, le_bytes_2, le_bytes_4, le_bytes_8}
 use Rattle.checkpoint_stream.specs.{declared.rules.{Width.{Width, TheVariants.{Two, Four, Eight}}, Row.Row}, HeadTable.{bytes_in, bytes_of}}
-use Rattle.checkpoint_stream.specs.HeadTable.{number_of}
+use Rattle.checkpoint_stream.specs.HeadTable.{number_spelled}
 
 -- the least number that a width can't hold
 abbrev pub limit_of : Width → ℕ
@@ -11,8 +11,8 @@ limit_of Two = 2 ^ 16
 limit_of Four = 2 ^ 32
 limit_of Eight = 2 ^ 64
 
-pub number-back : (w : Width) (n : ℕ) → n < limit_of w → number_of w (bytes_of w n) ≡ n
-unfolding number_of bytes_of
+pub number-back : (w : Width) (n : ℕ) → n < limit_of w → number_spelled w (bytes_of w n) ≡ n
+unfolding number_spelled bytes_of
 number-back Two n h = from_le_bytes-to_le_bytes_2 n h
 number-back Four n h = from_le_bytes-to_le_bytes_4 n h
 number-back Eight n h = from_le_bytes-to_le_bytes_8 n h
@@ -43,14 +43,14 @@ byte-at [] all i = lit< tt
 byte-at (b ∷ bs) all zero = All-head IsByte b bs all
 byte-at (b ∷ bs) all (suc i) = byte-at bs (All-tail IsByte b bs all) i
 
-pub bytes-back : (w : Width) (bs : List ℕ) → length bs ≡ bytes_in w → All IsByte bs → bytes_of w (number_of w bs) ≡ bs
-unfolding number_of bytes_of
+pub bytes-back : (w : Width) (bs : List ℕ) → length bs ≡ bytes_in w → All IsByte bs → bytes_of w (number_spelled w bs) ≡ bs
+unfolding number_spelled bytes_of
 bytes-back Two bs e all = le_bytes_2 bs _ e (byte-at bs all) refl
 bytes-back Four bs e all = le_bytes_4 bs _ e (byte-at bs all) refl
 bytes-back Eight bs e all = le_bytes_8 bs _ e (byte-at bs all) refl
 
-pub number-small : (w : Width) (bs : List ℕ) → All IsByte bs → number_of w bs < limit_of w
-unfolding number_of
+pub number-small : (w : Width) (bs : List ℕ) → All IsByte bs → number_spelled w bs < limit_of w
+unfolding number_spelled
 number-small Two bs all = let at : (i : ℕ) → get_or bs i 0 < 256 = byte-at bs all in omega (arith, at 0, at 1)
 number-small Four bs all =
     let at : (i : ℕ) → get_or bs i 0 < 256 = byte-at bs all in omega (arith, at 0, at 1, at 2, at 3)

@@ -5,12 +5,12 @@ use Rattle.std.proofs.{Math.Seq.{take-add}, lemmas.List.{length-take-le, take_mo
 use Rattle.guest_machine.specs.declared.shapes.Shape.{Shape}
 use Rattle.checkpoint_stream.specs.declared.{place.Place.{Place, TheVariants.{Head, Block}}, rules.Width.{Width, TheVariants.{Two, Four}}}
 use Rattle.checkpoint_stream.specs.declared.{rules.{Row.Row, Width.TheVariants.Eight}, runs.Between.{Between}}
-use Rattle.checkpoint_stream.specs.{HeadTable.{row_at, passes, number_of, bytes_in}, Readings.{Reading, is_closed, width_at}}
+use Rattle.checkpoint_stream.specs.{HeadTable.{row_at, passes, number_spelled, bytes_in}, Readings.{Reading, is_closed, width_at}}
 use Rattle.checkpoint_stream.specs.Readings.{judged, judged_at, after_number, kept_number, number_judged, block_judged}
 use Rattle.checkpoint_stream.{specs.Taken.{Takes, Extends, numbered}, proofs.{Feeding.{Takes-append, Takes-unit}, HeadRead.going-on}}
 
 pub judged-number : (r : Reading) (unit : List ℕ) → r.place ≡ Head →
-    judged r unit ≡ number_judged r (row_at r.known) (number_of (row_at r.known).width unit)
+    judged r unit ≡ number_judged r (row_at r.known) (number_spelled (row_at r.known).width unit)
 unfolding judged
 judged-number r unit e = ap (λ (p : Place). judged_at p r unit) e
 
@@ -56,7 +56,7 @@ kept-numbered r shape head known before offset n row keeps e less =
 
 pub numbered-next : (r s : Reading) (shape : Shape) (head : List ℕ) (known before offset at w n : ℕ) (bytes : List ℕ) (row : Row) →
     known < 80 → length head ≡ 80 → row ≡ row_at known → w ≡ bytes_in row.width → at + 8 ≤ length bytes →
-    n ≡ number_of row.width (take w (drop at bytes)) → passes shape row.rule before n ≡ true →
+    n ≡ number_spelled row.width (take w (drop at bytes)) → passes shape row.rule before n ≡ true →
     Takes s (take at bytes) (numbered r shape head (record { known = known; before = before; offset = offset })) →
     Takes s (take (at + w) bytes)
     (numbered r shape (set head known n) (record { known = known + 1; before = n; offset = (offset + w) % 2 ^ 64 }))
@@ -69,7 +69,7 @@ numbered-next r s shape head known before offset at w n bytes row less long is w
     let whole : length unit ≡ w
     = length-take-le w (drop at bytes) (omega (arith, enough, width, width-most row.width, length-drop at bytes)) in
     let wide : w ≡ bytes_in (row_at known).width = width ∙ ap (λ (q : Row). bytes_in q.width) is in
-    let same : number_of (row_at known).width unit ≡ n = sym (number ∙ ap (λ (q : Row). number_of q.width unit) is) in
+    let same : number_spelled (row_at known).width unit ≡ n = sym (number ∙ ap (λ (q : Row). number_spelled q.width unit) is) in
     let keeps : passes shape (row_at known).rule before n ≡ true = sym (ap (λ (q : Row). passes shape q.rule before n) is) ∙ passed in
     let judges : judged m unit ≡ numbered r shape (set head known n) (between (known + 1) n ((offset + w) % 2 ^ 64))
     = judged-number m unit place

@@ -9,7 +9,7 @@ use Rattle.epoch_snapshot.specs.Checkpoints.{block_count}
 use Rattle.checkpoint_stream.specs.declared.{rules.{Row.Row, Width.TheVariants.Four, Rule.TheVariants.Magic}, place.Place.Place}
 use Rattle.checkpoint_stream.specs.declared.place.Place.TheVariants.{Head, PageCount, PageIndex, PageMask, Block, SectorCount, SectorIndex}
 use Rattle.checkpoint_stream.specs.declared.place.Place.TheVariants.{SectorBytes, FrameCount, FrameLength, FrameBytes, Whole, Failed}
-use Rattle.checkpoint_stream.specs.{HeadTable.{head_table, row_at, passes, number_of, number}, Readings.{Reading, is_full, failed, moved}}
+use Rattle.checkpoint_stream.specs.{HeadTable.{head_table, row_at, passes, number_spelled, number}, Readings.{Reading, is_full, failed, moved}}
 use Rattle.checkpoint_stream.specs.Readings.{pages_due, sectors_due, after_block, after_number, moved_if, has_frames, most_frames}
 use Rattle.checkpoint_stream.specs.Readings.{frames_due, frame_judged, width_at, kept_number, kept_mask, kept_block, kept_sector, judged}
 use Rattle.checkpoint_stream.specs.{Readings.{judged_at, is_closed, fed_byte, fed, begun, width_of}, Sound.{IsSound, IsHead, HasNoRecords}}
@@ -279,22 +279,22 @@ frame-read r left len frame h records = record {
 judged_at-read : (p : Place) (r : Reading) (unit : List ℕ) → r.place ≡ p → IsHead r → StandsAt p r → IsRead (judged_at p r unit)
 judged_at-read Head r unit at h s = number-read _ r _ h s.1 s.0 refl
 judged_at-read PageCount r unit at h s =
-    moved_if-read _ r _ h (λ (e : nat_le (number_of Four unit) r.shape.pages ≡ true). stands-pages_due _ _ 0
+    moved_if-read _ r _ h (λ (e : nat_le (number_spelled Four unit) r.shape.pages ≡ true). stands-pages_due _ _ 0
     (keep-records r _ _ _ _ 0 0 0 (no-records r s.0 s.1)))
 judged_at-read (PageIndex left from) r unit at h s = moved_if-read _ r _ h (λ e.
-    let tests : (nat_le from (number_of Four unit) ≡ true) × (nat_lt (number_of Four unit) r.shape.pages ≡ true) = both-true _ _ e in
-    let below : number_of Four unit < r.shape.pages = lt-true _ _ tests.1 in
-    (below, keep-records r _ _ _ _ _ 0 0 (higher-pages r from (number_of Four unit) 0 0 (le-true _ _ tests.0) (omega arith) s)))
+    let tests : (nat_le from (number_spelled Four unit) ≡ true) × (nat_lt (number_spelled Four unit) r.shape.pages ≡ true) = both-true _ _ e in
+    let below : number_spelled Four unit < r.shape.pages = lt-true _ _ tests.1 in
+    (below, keep-records r _ _ _ _ _ 0 0 (higher-pages r from (number_spelled Four unit) 0 0 (le-true _ _ tests.0) (omega arith) s)))
 judged_at-read (PageMask left page) r unit at h s = mask-read _ r left page _ h s.0 s.1 refl
 judged_at-read (Block left page more) r unit at h s = block-read _ r left page more unit h s.0 s.1 refl
 judged_at-read SectorCount r unit at h s = moved_if-read _ r _ h (λ e. stands-sectors_due _ (has_frames r) _ 0 (keep-records r _ _ _ _ _ 0 0 s))
 judged_at-read (SectorIndex left from) r unit at h s = moved_if-read _ r _ h (λ e.
-    let tests : (nat_le from (number_of Four unit) ≡ true) × (nat_lt (number_of Four unit) r.shape.sectors ≡ true) = both-true _ _ e in
-    let below : number_of Four unit < r.shape.sectors = lt-true _ _ tests.1 in
-    (below, keep-records r _ _ _ _ _ 0 _ (higher-sectors r r.shape.pages 0 from (number_of Four unit) (le-true _ _ tests.0) (omega arith) s)))
+    let tests : (nat_le from (number_spelled Four unit) ≡ true) × (nat_lt (number_spelled Four unit) r.shape.sectors ≡ true) = both-true _ _ e in
+    let below : number_spelled Four unit < r.shape.sectors = lt-true _ _ tests.1 in
+    (below, keep-records r _ _ _ _ _ 0 _ (higher-sectors r r.shape.pages 0 from (number_spelled Four unit) (le-true _ _ tests.0) (omega arith) s)))
 judged_at-read (SectorBytes left sector) r unit at h s = sector-read _ r left sector unit h s.0 s.1 refl
 judged_at-read FrameCount r unit at h s =
-    moved_if-read _ r _ h (λ e. stands-frames_due _ (number_of Four unit) (keep-records r _ _ _ _ _ _ _ s))
+    moved_if-read _ r _ h (λ e. stands-frames_due _ (number_spelled Four unit) (keep-records r _ _ _ _ _ _ _ s))
 judged_at-read (FrameLength left) r unit at h s = moved_if-read _ r _ h (λ e. keep-records r _ _ _ _ _ _ _ s)
 judged_at-read (FrameBytes left len) r unit at h s = frame-read r left len unit h s
 judged_at-read Whole r unit at h s = record { head = h; place = subst (λ (q : Place). StandsAt q r) (sym at) s }
@@ -404,19 +404,19 @@ frame-framed r left len frame within h wide =
 judged_at-framed : (p : Place) (r : Reading) (unit : List ℕ) → r.place ≡ p → FramesAt p r → length unit ≡ width_at p r.known →
     FramesAt (judged_at p r unit).place (judged_at p r unit)
 judged_at-framed Head r unit at s wide = number-framed _ r _ _ s
-judged_at-framed PageCount r unit at s wide = moved_if-framed _ r _ (λ e. framed-pages_due _ (number_of Four unit) 0 s)
+judged_at-framed PageCount r unit at s wide = moved_if-framed _ r _ (λ e. framed-pages_due _ (number_spelled Four unit) 0 s)
 judged_at-framed (PageIndex left from) r unit at s wide = moved_if-framed _ r _ (λ e. s)
 judged_at-framed (PageMask left page) r unit at s wide = mask-framed _ r left page _ s
 judged_at-framed (Block left page more) r unit at s wide = block-framed _ r left page more unit s
 judged_at-framed SectorCount r unit at s wide =
-    moved_if-framed _ r _ (λ e. framed-sectors_due _ (has_frames r) (number_of Four unit) 0 refl s)
+    moved_if-framed _ r _ (λ e. framed-sectors_due _ (has_frames r) (number_spelled Four unit) 0 refl s)
 judged_at-framed (SectorIndex left from) r unit at s wide = moved_if-framed _ r _ (λ e. s)
 judged_at-framed (SectorBytes left sector) r unit at s wide = sector-framed _ r left sector unit s
-judged_at-framed FrameCount r unit at s wide = moved_if-framed _ r _ (λ (e : nat_le (number_of Four unit) (most_frames r) ≡ true).
-    framed-frames_due _ (number_of Four unit)
-    (keep-frames r _ _ _ _ (frame_count-framed r (number_of Four unit) s.0 s.1 (le-true _ _ e))))
+judged_at-framed FrameCount r unit at s wide = moved_if-framed _ r _ (λ (e : nat_le (number_spelled Four unit) (most_frames r) ≡ true).
+    framed-frames_due _ (number_spelled Four unit)
+    (keep-frames r _ _ _ _ (frame_count-framed r (number_spelled Four unit) s.0 s.1 (le-true _ _ e))))
 judged_at-framed (FrameLength left) r unit at s wide = moved_if-framed _ r _ (λ e.
-    let tests : (nat_le 14 (number_of Four unit) ≡ true) × (nat_le (number_of Four unit) 1514 ≡ true) = both-true _ _ e in
+    let tests : (nat_le 14 (number_spelled Four unit) ≡ true) × (nat_le (number_spelled Four unit) 1514 ≡ true) = both-true _ _ e in
     ((le-true _ _ tests.0, le-true _ _ tests.1), keep-frames r _ _ _ _ s))
 judged_at-framed (FrameBytes left len) r unit at s wide = frame-framed r left len unit s.0 s.1 wide
 judged_at-framed Whole r unit at s wide = subst (λ (q : Place). FramesAt q r) (sym at) s

@@ -4,7 +4,7 @@ use Rattle.checkpoint_stream.proofs.Fronts.{last-spelled, block-spelled, sector_
 use Rattle.checkpoint_stream.{proofs.Fronts.no-frames, specs.declared.rules.{Width.TheVariants.{Four, Eight}, Rule.TheVariants.Magic}}
 use Rattle.checkpoint_stream.specs.declared.place.Place.{Place, TheVariants.{Head, PageCount, PageIndex, PageMask, Block, SectorCount}}
 use Rattle.checkpoint_stream.specs.declared.place.Place.TheVariants.{SectorIndex, SectorBytes, FrameCount, FrameLength, FrameBytes, Whole}
-use Rattle.checkpoint_stream.specs.{declared.place.Place.TheVariants.Failed, HeadTable.{head_table, row_at, bytes_of, number_of, number}}
+use Rattle.checkpoint_stream.specs.{declared.place.Place.TheVariants.Failed, HeadTable.{head_table, row_at, bytes_of, number_spelled, number}}
 use Rattle.checkpoint_stream.specs.Readings.{Reading, failed, moved, moved_if, kept_number, kept_mask, kept_block, kept_sector, pages_due}
 use Rattle.checkpoint_stream.specs.Readings.{sectors_due, after_number, is_closed, judged_at, width_at, has_frames, after_sectors}
 use Rattle.checkpoint_stream.specs.{Readings.{frames_due, frame_judged}, Sound.{IsHead, HasRecords, HasFrames, StandsAt, FramesAt}}
@@ -335,8 +335,8 @@ pub judged_at-written : (p : Place) (r : Reading) (unit whole : List ℕ) → is
 judged_at-written Head r unit whole going h s fr o e bytes wide =
     number-written _ r _ whole unit h s.0 e (bytes-back (row_at r.known).width unit wide bytes)
 judged_at-written PageCount r unit whole going h s fr o e bytes wide =
-    moved_if-written _ r _ (whole ++ unit) (pages_due-written _ (number_of Four unit) 0 (whole ++ unit)
-    (put-after _ _ _ _ e (sym (bytes-back Four unit wide bytes) ∙ page_count-spelled r (number_of Four unit) s.1.pages)))
+    moved_if-written _ r _ (whole ++ unit) (pages_due-written _ (number_spelled Four unit) 0 (whole ++ unit)
+    (put-after _ _ _ _ e (sym (bytes-back Four unit wide bytes) ∙ page_count-spelled r (number_spelled Four unit) s.1.pages)))
 judged_at-written (PageIndex left from) r unit whole going h s fr o e bytes wide =
     moved_if-written _ r _ (whole ++ unit)
     (record { opens = tt; spells = put-after _ _ _ _ e (sym (bytes-back Four unit wide bytes)) })
@@ -344,17 +344,17 @@ judged_at-written (PageMask left page) r unit whole going h s fr o e bytes wide 
     mask-written _ r left page _ whole unit s.1 refl e (bytes-back Eight unit wide bytes)
 judged_at-written (Block left page more) r unit whole going h s fr o e bytes wide = block-written _ r left page more whole unit o e
 judged_at-written SectorCount r unit whole going h s fr o e bytes wide =
-    moved_if-written _ r _ (whole ++ unit) (sectors_due-written _ (number_of Four unit) 0 (whole ++ unit)
+    moved_if-written _ r _ (whole ++ unit) (sectors_due-written _ (number_spelled Four unit) 0 (whole ++ unit)
     (put-after _ _ _ _ e (sym (bytes-back Four unit wide bytes)
-    ∙ sector_count-spelled r (number_of Four unit) (no-sectors-yet r r.shape.pages 0 s))))
+    ∙ sector_count-spelled r (number_spelled Four unit) (no-sectors-yet r r.shape.pages 0 s))))
 judged_at-written (SectorIndex left from) r unit whole going h s fr o e bytes wide =
     moved_if-written _ r _ (whole ++ unit)
     (record { opens = tt; spells = put-after _ _ _ _ e (sym (bytes-back Four unit wide bytes)) })
 judged_at-written (SectorBytes left sector) r unit whole going h s fr o e bytes wide =
     sector-written _ r left sector whole unit e
 judged_at-written FrameCount r unit whole going h s fr o e bytes wide =
-    moved_if-written _ r _ (whole ++ unit) (frames_due-written _ (number_of Four unit) (whole ++ unit) fr.0
-    (put-after _ _ _ _ e (sym (bytes-back Four unit wide bytes) ∙ frame_count-spelled r (number_of Four unit) fr.1)))
+    moved_if-written _ r _ (whole ++ unit) (frames_due-written _ (number_spelled Four unit) (whole ++ unit) fr.0
+    (put-after _ _ _ _ e (sym (bytes-back Four unit wide bytes) ∙ frame_count-spelled r (number_spelled Four unit) fr.1)))
 judged_at-written (FrameLength left) r unit whole going h s fr o e bytes wide =
     moved_if-written _ r _ (whole ++ unit)
     (record { opens = tt; spells = put-after _ _ _ _ e (sym (bytes-back Four unit wide bytes)) })

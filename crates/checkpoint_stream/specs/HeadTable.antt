@@ -71,10 +71,10 @@ bytes_in Two = 2
 bytes_in Four = 4
 bytes_in Eight = 8
 
-unfoldable pub number_of : Width → List ℕ → ℕ
-number_of Two bytes = from_le_bytes w16 bytes
-number_of Four bytes = from_le_bytes w32 bytes
-number_of Eight bytes = from_le_bytes w64 bytes
+unfoldable pub number_spelled : Width → List ℕ → ℕ
+number_spelled Two bytes = from_le_bytes w16 bytes
+number_spelled Four bytes = from_le_bytes w32 bytes
+number_spelled Eight bytes = from_le_bytes w64 bytes
 
 -- the bytes that a number is
 unfoldable pub bytes_of : Width → ℕ → List ℕ

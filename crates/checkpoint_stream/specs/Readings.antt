@@ -12,7 +12,7 @@ use Rattle.checkpoint_stream.specs.declared.place.Place.TheVariants.{Head, PageC
 use Rattle.checkpoint_stream.specs.declared.place.Place.TheVariants.{SectorIndex, SectorBytes, FrameCount, FrameLength, FrameBytes}
 use Rattle.checkpoint_stream.specs.declared.place.Place.TheVariants.{Whole, Failed}
 use Rattle.arrayvec.specs.ArrayVec.{ArrayVec}
-use Rattle.checkpoint_stream.specs.HeadTable.{passes, number_of, bytes_in, row_at}
+use Rattle.checkpoint_stream.specs.HeadTable.{passes, number_spelled, bytes_in, row_at}
 
 -- the reader's shape; how many bytes its whole units had since it was made, modulo 2^64; the unit that comes next; and of the
 -- checkpoint that is being read how many numbers of the head are known, these numbers with the last of them, the pages, blocks,
@@ -182,16 +182,16 @@ frame_judged r left len frame = moved (record r { frames = r.frames ++ (record {
 
 abbrev pub judged_at : Place → Reading → List ℕ → Reading
 judged_at Head r unit =
-    number_judged r (row_at r.known) (number_of (row_at r.known).width unit)
-judged_at PageCount r unit = page_count_judged r (number_of Four unit)
-judged_at (PageIndex left from) r unit = page_index_judged r left from (number_of Four unit)
-judged_at (PageMask left page) r unit = mask_judged r left page (number_of Eight unit)
+    number_judged r (row_at r.known) (number_spelled (row_at r.known).width unit)
+judged_at PageCount r unit = page_count_judged r (number_spelled Four unit)
+judged_at (PageIndex left from) r unit = page_index_judged r left from (number_spelled Four unit)
+judged_at (PageMask left page) r unit = mask_judged r left page (number_spelled Eight unit)
 judged_at (Block left page more) r unit = block_judged r left page more unit
-judged_at SectorCount r unit = sector_count_judged r (number_of Four unit)
-judged_at (SectorIndex left from) r unit = sector_index_judged r left from (number_of Four unit)
+judged_at SectorCount r unit = sector_count_judged r (number_spelled Four unit)
+judged_at (SectorIndex left from) r unit = sector_index_judged r left from (number_spelled Four unit)
 judged_at (SectorBytes left sector) r unit = sector_judged r left sector unit
-judged_at FrameCount r unit = frame_count_judged r (number_of Four unit)
-judged_at (FrameLength left) r unit = frame_length_judged r left (number_of Four unit)
+judged_at FrameCount r unit = frame_count_judged r (number_spelled Four unit)
+judged_at (FrameLength left) r unit = frame_length_judged r left (number_spelled Four unit)
 judged_at (FrameBytes left len) r unit = frame_judged r left len unit
 judged_at Whole r unit = r
 judged_at (Failed at) r unit = r

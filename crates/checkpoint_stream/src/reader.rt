@@ -3,7 +3,7 @@
 ghost use Rattle.std.specs.Prelude.{◌≡◌, ◌≢◌, ◌<◌, ◌≤◌, true, false, length, Err, IfOk, IfSome, IfNone};
 ghost use Rattle.checkpoint_stream.specs.Readings.{begun, is_closed, is_whole};
 ghost use Rattle.checkpoint_stream.specs.Sound.{change_in, whole_name};
-ghost use Rattle.checkpoint_stream.specs.Answers.{Answers};
+ghost use Rattle.checkpoint_stream.specs.Answers.{FeedAnswers};
 ghost use Rattle.checkpoint_stream.specs.Bounds.{IsBounded};
 ghost use Rattle.checkpoint_stream.specs.Taken.{has_room};
 ghost use Rattle.checkpoint_stream.specs.declared.errors.StreamError.TheVariants.{NoMemory};
@@ -57,7 +57,7 @@ impl Reader {
     /// refused memory from the count of frames on, nor while a whole checkpoint stands, nor after a unit that broke its rule.
     #[tactic(auto, using(crate::proofs::Feeding::taken_le, crate::proofs::Feeding::taken_some))]
     pub fn feed(&mut self, piece: &[u8]) -> Result<usize, StreamError>
-        ensures answers { Answers self.old piece.now result self.new }
+        ensures answers { FeedAnswers self.old piece.now result self.new }
         ensures within { IfOk result (λ count. count ≤ length piece.now) }
         ensures some { is_closed self.old.place ≡ false → 0 < length piece.now → IfOk result (λ count. 0 < count) }
         ensures room { has_room self.old.place ≡ true → result ≢ Err (NoMemory wanted) }

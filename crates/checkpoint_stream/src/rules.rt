@@ -1,7 +1,7 @@
 //! The head's numbers: how wide each is, and what it may be.
 
 ghost use Rattle.std.specs.Prelude.{◌≡◌, ◌<◌, length};
-ghost use Rattle.checkpoint_stream.specs.HeadTable.{row_at, passes, number_of, bytes_in};
+ghost use Rattle.checkpoint_stream.specs.HeadTable.{row_at, passes, number_spelled, bytes_in};
 ghost use Rattle.checkpoint_stream.specs.declared.rules.Width.TheVariants.{Four};
 
 use epoch_snapshot::MOST_OLD_PAGES;
@@ -226,10 +226,10 @@ fn keeps(shape: Shape, rule: Rule, before: u64, n: u64) -> bool
 }
 
 /// The number that these bytes are, little end first.
-#[tactic(auto, unfolding(crate::specs::HeadTable::number_of))]
+#[tactic(auto, unfolding(crate::specs::HeadTable::number_spelled))]
 pub(crate) fn number_of(width: Width, bytes: &[u8]) -> u64
     requires { length bytes.now ≡ bytes_in width }
-    ensures { result ≡ number_of width bytes.now }
+    ensures { result ≡ number_spelled width bytes.now }
 {
     match width {
         Width::Two => u64::from(u16::from_le_bytes([bytes[0], bytes[1]])),
@@ -241,10 +241,10 @@ pub(crate) fn number_of(width: Width, bytes: &[u8]) -> u64
 }
 
 /// The number that these four bytes are, little end first.
-#[tactic(auto, unfolding(crate::specs::HeadTable::number_of))]
+#[tactic(auto, unfolding(crate::specs::HeadTable::number_spelled))]
 pub(crate) fn u32_of(bytes: &[u8]) -> u32
     requires { length bytes.now ≡ 4 }
-    ensures { result ≡ number_of Four bytes.now }
+    ensures { result ≡ number_spelled Four bytes.now }
 {
     u32::from_le_bytes([bytes[0], bytes[1], bytes[2], bytes[3]])
 }

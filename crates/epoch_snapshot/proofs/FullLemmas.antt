@@ -4,7 +4,7 @@ use Rattle.std.proofs.{Common.{refl, sym, ap, ◌∙◌, arith, subst, All, lit<
 use Rattle.std.{proofs.lemmas.List.length-replicate, specs.{List.{range_with_len, filter}, Int.{bit_at, Bits.xor_zero_l}}}
 use Rattle.net_device.specs.Frames.{IsFrame}
 use Rattle.guest_machine.specs.{Dirty.Rises, Guest.{Guest, State, sector_count}, MachineStates.{IsMachineState, state_of, with_state}, Pages.page_of}
-use Rattle.epoch_snapshot.specs.{declared.changes.{PageChange.PageChange, SectorChange.SectorChange}, Bases.{IsCut, IsFullCut}}
+use Rattle.epoch_snapshot.specs.{declared.changes.{PageChange.PageChange, SectorChange.SectorChange}, Bases.{IsCheckpointOver, IsFullCut}}
 use Rattle.epoch_snapshot.specs.{Blocks.{block_in, block_differs, set_blocks, xored}, Checkpoints.{Change, IsCanonical}, Images.image_of}
 use Rattle.epoch_snapshot.specs.Cuts.{page_change, is_changed, changed_pages, block_change, changed_blocks, sector_change, changed_sectors}
 use Rattle.epoch_snapshot.specs.Cuts.{used_sectors}
@@ -107,7 +107,7 @@ module _ (m : State) (g : ℕ) (c : Change) (cut : IsFullCut m g c) where
   pub full-image : (base : Guest) → with_state m.guest (state_of m.guest) ≡ m.guest → image_of c base ≡ m.guest
   full-image base whole =
       image-full m g c base
-      (subst (λ (n : ℕ). IsCut (replicate (length m.guest.ram) 0) (used_sectors m.guest.sectors n) [] m g 0 c) count cut) whole
+      (subst (λ (n : ℕ). IsCheckpointOver (replicate (length m.guest.ram) 0) (used_sectors m.guest.sectors n) [] m g 0 c) count cut) whole
 
   pub full-masks : All (λ (p : PageChange). p.mask < 2 ^ 64) c.pages
   full-masks =

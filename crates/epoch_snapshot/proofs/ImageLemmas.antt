@@ -4,7 +4,7 @@ use Rattle.std.{proofs.{Common.subst, lemmas.{List.length-replicate, Bool.{eq-eq
 use Rattle.arrayvec.specs.ArrayVec.{ArrayVec}
 use Rattle.net_device.specs.Frames.{IsFrame}
 use Rattle.guest_machine.specs.{Dirty.Rises, Guest.{Guest, sector_count, State}, MachineStates.{IsMachineState, state_of, with_state}}
-use Rattle.epoch_snapshot.specs.{declared.changes.{PageChange.PageChange, SectorChange.SectorChange}, Bases.{IsBase, IsCut}, Blocks.is_zero}
+use Rattle.epoch_snapshot.specs.{declared.changes.{PageChange.PageChange, SectorChange.SectorChange}, Bases.{IsBase, IsCheckpointOver}, Blocks.is_zero}
 use Rattle.epoch_snapshot.specs.{Blocks.block_numbers, Checkpoints.{Change, IsCanonical, block_count}, Cuts.{sector_of, changed_blocks}}
 use Rattle.epoch_snapshot.specs.{Cuts.{changed_sectors, used_sectors}, Images.{with_blocks, with_sectors, base_ram, base_sectors, image_of}}
 use Rattle.epoch_snapshot.proofs.{CutLemmas.with_blocks-cut, CanonicalLemmas.{Rises-changed, masks-changed, length-changed_blocks}}
@@ -13,7 +13,7 @@ use Rattle.epoch_snapshot.proofs.SectorLemmas.{numbers-changed, Rises-used}
 
 -- what a cut keeps of a machine is canonical
 pub IsCanonical-cut : (old listed : List ℕ) (sent : List (ArrayVec ℕ)) (m : State) (generation number : ℕ) (c : Change) →
-    IsCut old listed sent m generation number c →
+    IsCheckpointOver old listed sent m generation number c →
     1 ≤ generation → generation < 2 ^ 62 → number < 2 ^ 62 → IsMachineState c.state → Rises 0 c.shape.sectors listed →
     (c.number ≡ 0 → All (λ (s : SectorChange). IsTrue (not (is_zero s.bytes))) (changed_sectors m.guest.sectors listed)) →
     All IsFrame sent → length sent ≤ 256 → (c.number ≡ 0 → sent ≡ []) → IsCanonical c
@@ -45,7 +45,7 @@ IsCanonical-cut old listed sent m generation number c cut least most below state
 
 -- the image of a cut over a base that it stands over
 image_over : (old listed : List ℕ) (sent : List (ArrayVec ℕ)) (m : State) (generation number : ℕ) (c : Change) (base : Guest) →
-    IsCut old listed sent m generation number c →
+    IsCheckpointOver old listed sent m generation number c →
     length old ≡ length m.guest.ram → base_ram c base.ram ≡ old → length (base_sectors c base.sectors) ≡ length m.guest.sectors →
     Rises 0 c.shape.sectors listed → AgreesOff c.shape.sectors listed (base_sectors c base.sectors) m.guest.sectors →
     with_state m.guest (state_of m.guest) ≡ m.guest → image_of c base ≡ m.guest
@@ -69,7 +69,7 @@ pub count_is : (bytes : List ℕ) (n : ℕ) → length bytes ≡ 512 * n → sec
 count_is bytes n e = omega (arith, e)
 
 -- a delta over its base
-pub image-delta : (m : State) (generation number : ℕ) (c : Change) (base : Guest) → IsCut m.settled m.dirty m.outbox m generation number c →
+pub image-delta : (m : State) (generation number : ℕ) (c : Change) (base : Guest) → IsCheckpointOver m.settled m.dirty m.outbox m generation number c →
     1 ≤ number →
     length m.settled ≡ length m.guest.ram → Rises 0 c.shape.sectors m.dirty → with_state m.guest (state_of m.guest) ≡ m.guest →
     IsBase m base → image_of c base ≡ m.guest
@@ -85,7 +85,7 @@ image-delta m generation number c base cut some same rises whole on =
 
 -- a full one over any guest
 pub image-full : (m : State) (generation : ℕ) (c : Change) (base : Guest) →
-    IsCut (replicate (length m.guest.ram) 0) (used_sectors m.guest.sectors c.shape.sectors) [] m generation 0 c →
+    IsCheckpointOver (replicate (length m.guest.ram) 0) (used_sectors m.guest.sectors c.shape.sectors) [] m generation 0 c →
     with_state m.guest (state_of m.guest) ≡ m.guest → image_of c base ≡ m.guest
 image-full m generation c base cut whole =
     let full = eq-eqb c.number 0 cut.number in

@@ -18,7 +18,7 @@ old_ram Zero m = replicate (length m.guest.ram) 0
 
 -- a checkpoint of a machine, of version 2, records exactly the pages and blocks that differ from an old memory, exactly these sectors, and
 -- exactly these frames, in order; g is its generation and n its number
-pub record IsCut (old : List ℕ) (listed : List ℕ) (sent : List (ArrayVec ℕ)) (m : State) (g n : ℕ) (c : Change) : Type 0 where
+pub record IsCheckpointOver (old : List ℕ) (listed : List ℕ) (sent : List (ArrayVec ℕ)) (m : State) (g n : ℕ) (c : Change) : Type 0 where
   pub version : c.version ≡ 2
   pub pages_size : length m.guest.ram ≡ page_bytes * c.shape.pages
   pub sectors_size : length m.guest.sectors ≡ 512 * c.shape.sectors
@@ -32,7 +32,7 @@ pub record IsCut (old : List ℕ) (listed : List ℕ) (sent : List (ArrayVec ℕ
 
 -- a full checkpoint of a machine, of this generation: all of it that isn't zero
 abbrev pub IsFullCut : State → ℕ → Change → Type 0
-IsFullCut m g c = IsCut (replicate (length m.guest.ram) 0) (used_sectors m.guest.sectors (sector_count m.guest.sectors)) [] m g 0 c
+IsFullCut m g c = IsCheckpointOver (replicate (length m.guest.ram) 0) (used_sectors m.guest.sectors (sector_count m.guest.sectors)) [] m g 0 c
 
 -- a guest that a machine's delta stands over: its memory is the machine's at the last settle, and its disk has as many bytes as
 -- the machine's, and the same ones at each sector that isn't listed as written

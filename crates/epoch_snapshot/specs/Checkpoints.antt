@@ -1,5 +1,5 @@
 -- What a checkpoint states of a machine, and of what its guest sent.
-use Rattle.std.specs.Prelude.{◌≡◌, ◌≢◌, ℕ, ◌^◌, ◌<◌, ◌≤◌, IsTrue, not, List, [], length, map, All, count_ones}
+use Rattle.std.specs.Prelude.{◌≡◌, ◌≢◌, ℕ, ◌^◌, ◌<◌, ◌≤◌, IsTrue, not, List, [], length, map, All, count_ones, Bool, ◌&&◌, ◌==◌}
 use Rattle.std.specs.List.{sum_by}
 use Rattle.guest_machine.specs.Dirty.{Rises}
 use Rattle.guest_machine.specs.declared.shapes.Shape.{Shape}
@@ -64,3 +64,7 @@ pub record IsCanonical (c : Change) : Type 0 where
   pub old_frames : c.version ≡ 1 → c.frames ≡ []
   pub old_pages : c.version ≡ 1 → c.shape.pages ≤ most_old_pages
   pub full_frames : c.number ≡ 0 → c.frames ≡ []
+
+-- a delta of version 1 carries no frames, so what its guest sent could never be said. A full one stands for no epoch
+abbrev pub is_old_delta : Change → Bool
+is_old_delta c = c.version == 1 && not (c.number == 0)

@@ -2,7 +2,7 @@
 ghost use Rattle.std.specs.Prelude.{◌≡◌, ◌^◌, ◌<◌, ◌≤◌, IfOk, OnErr, Err, [], length, replicate};
 ghost use Rattle.memory_wanted.specs.Wanted.{wanted};
 ghost use Rattle.guest_machine.specs.Guest.{Guest, sector_count};
-ghost use Rattle.epoch_snapshot.specs.Bases.{IsBase, IsCut};
+ghost use Rattle.epoch_snapshot.specs.Bases.{IsBase, IsCheckpointOver};
 ghost use Rattle.epoch_snapshot.specs.Cuts.{used_sectors};
 ghost use Rattle.epoch_snapshot.specs.Images.{image_of};
 
@@ -38,7 +38,7 @@ pub fn cut_delta(
     requires first_number { 1 ≤ number }
     requires last_number { number < 2 ^ 62 }
     ensures image { IfOk result (λ c. (base : Guest) → IsBase machine.now base → image_of c base ≡ machine.now.guest) }
-    ensures parts { IfOk result (IsCut machine.now.settled machine.now.dirty machine.now.outbox machine.now generation number) }
+    ensures parts { IfOk result (IsCheckpointOver machine.now.settled machine.now.dirty machine.now.outbox machine.now generation number) }
     ensures err { OnErr result (result ≡ Err (SnapshotError.NoMemory wanted)) }
 {
     let shape = machine.shape();
@@ -77,7 +77,7 @@ pub fn cut_full(
     requires first_generation { 1 ≤ generation }
     requires last_generation { generation < 2 ^ 62 }
     ensures image { IfOk result (λ c. (base : Guest) → image_of c base ≡ machine.now.guest) }
-    ensures parts { IfOk result (IsCut (replicate (length machine.now.guest.ram) 0)
+    ensures parts { IfOk result (IsCheckpointOver (replicate (length machine.now.guest.ram) 0)
         (used_sectors machine.now.guest.sectors (sector_count machine.now.guest.sectors)) [] machine.now generation 0) }
     ensures err { OnErr result (result ≡ Err (SnapshotError.NoMemory wanted)) }
 {

@@ -3,3 +3,4 @@ pub mod Changes
 pub mod Generations
 pub mod Refusals
 pub mod Words
+pub mod Modes

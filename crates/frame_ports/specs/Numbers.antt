@@ -8,12 +8,12 @@ use Rattle.frame_ports.specs.declared.landing.Landing.{Landing}
 use Rattle.frame_ports.specs.declared.landing.Landing.TheVariants.{In, Dropped, Old}
 
 -- the number of the last frame that came for client c
-abbrev pub number_of : PortsState → ℕ → ℕ
-number_of s c = slice_index_or s.numbers (c - 1) 0
+abbrev pub last_come : PortsState → ℕ → ℕ
+last_come s c = slice_index_or s.numbers (c - 1) 0
 
 -- frame n hasn't come for client c yet
 abbrev pub is_new : PortsState → ℕ → ℕ → Bool
-is_new s c n = nat_lt (number_of s c) n
+is_new s c n = nat_lt (last_come s c) n
 
 -- what becomes of frame n at client c
 abbrev pub landing : PortsState → ℕ → ℕ → Landing
@@ -25,5 +25,5 @@ after_landing s c n f =
     if is_new s c n then record s { numbers = slice_set s.numbers (c - 1) n; boxes = landed_at s.boxes c f } else s
 
 -- the ports where the guest's frames are numbered from 1 anew
-abbrev pub marked : PortsState → PortsState
-marked s = record s { numbers = replicate (length s.boxes) 0 }
+abbrev pub renumbered : PortsState → PortsState
+renumbered s = record s { numbers = replicate (length s.boxes) 0 }

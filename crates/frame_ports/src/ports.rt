@@ -22,7 +22,7 @@ ghost use Rattle.std.specs.Prelude.{
 };
 ghost use Rattle.frame_ports.specs.Limits.{max_clients, inbox_frames, box_frames};
 ghost use Rattle.frame_ports.specs.Addresses.{IsFrame};
-ghost use Rattle.frame_ports.specs.Numbers.{is_new, landing, after_landing, marked};
+ghost use Rattle.frame_ports.specs.Numbers.{is_new, landing, after_landing, renumbered};
 ghost use Rattle.frame_ports.specs.Ports.{
   is_client,
   IsClient,
@@ -56,7 +56,7 @@ use std::marker::Model;
 /// the number of the last frame of the guest that came for it.
 ///
 /// A call changes only the list that it names and, in [`Ports::deliver`], the next frame number. Only
-/// [`Ports::land`] and [`Ports::mark`] change the number of a client. After a refusal nothing has changed. Only
+/// [`Ports::land`] and [`Ports::renumber`] change the number of a client. After a refusal nothing has changed. Only
 /// [`Ports::new`] takes memory.
 #[derive(Drop)]
 pub struct Ports {
@@ -252,8 +252,8 @@ impl Ports {
     }
 
     /// Makes the number of each client 0, so that frames that the guest numbers from 1 anew land.
-    pub fn mark(&mut self)
-        ensures { self.new ≡ marked self.old }
+    pub fn renumber(&mut self)
+        ensures { self.new ≡ renumbered self.old }
     {
         self.numbers = zeros(self.boxes.len());
     }

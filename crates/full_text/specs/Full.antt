@@ -8,7 +8,7 @@ use Rattle.guest_machine.specs.MachineStates.{state_of}
 use Rattle.guest_machine.specs.Pages.{page_of}
 use Rattle.guest_machine.specs.declared.shapes.Shape.{Shape}
 use Rattle.epoch_snapshot.specs.declared.changes.PageChange.{PageChange}
-use Rattle.epoch_snapshot.specs.Bases.{IsCut}
+use Rattle.epoch_snapshot.specs.Bases.{IsCheckpointOver}
 use Rattle.epoch_snapshot.specs.Blocks.{block_in, set_blocks}
 use Rattle.epoch_snapshot.specs.Checkpoints.{Change, change_of}
 use Rattle.epoch_snapshot.specs.Cuts.{used_sectors}
@@ -77,7 +77,7 @@ IsMadeTo count f = length f.made < count → (f.pages ≡ []) × (f.tail ≡ [])
 -- a text that reads back as the full checkpoint of a machine, number 0 of this generation, which makes its guest of any
 pub record IsFullText (m : State) (generation : ℕ) (text : List ℕ) : Type 0 where
   pub change : Change
-  pub cut : IsCut (zeros m.guest.ram) (used_sectors m.guest.sectors (sector_count m.guest.sectors)) [] m generation 0 change
+  pub cut : IsCheckpointOver (zeros m.guest.ram) (used_sectors m.guest.sectors (sector_count m.guest.sectors)) [] m generation 0 change
   pub image : (base : Guest) → image_of change base ≡ m.guest
   pub reads : ReadsBack change text
   pub short : length text ≤ most_text change.shape

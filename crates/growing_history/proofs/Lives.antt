@@ -2,12 +2,12 @@
 use Rattle.std.proofs.Common.{◌≡◌, [], refl, arith}
 use Rattle.frame_ports.specs.Addresses.{IsFrame}
 use Rattle.pair_history.specs.Entries.{Frame}
-use Rattle.growing_history.specs.LogState.{Legal, state_at}
+use Rattle.growing_history.specs.LogState.{LegalSteps, state_at}
 use Rattle.growing_history.specs.Examples.{two_clients}
 use Rattle.growing_history.specs.Lives.{life, marked_life}
 
-pub life-legal : (f : Frame) → IsFrame f → Legal two_clients (life f)
-unfolding Legal
+pub life-legal : (f : Frame) → IsFrame f → LegalSteps two_clients (life f)
+unfolding LegalSteps
 life-legal f is = (
   record { may = (refl, tt, refl, refl, (tt, ([], refl))); known = λ e. tt; lawful = λ none. tt },
   (
@@ -56,8 +56,8 @@ pub life-unmarked : (f : Frame) → (state_at two_clients (life f)).marked ≡ 0
 unfolding state_at
 life-unmarked f = refl
 
-pub marked-legal : (f : Frame) → Legal two_clients (marked_life f)
-unfolding Legal
+pub marked-legal : (f : Frame) → LegalSteps two_clients (marked_life f)
+unfolding LegalSteps
 marked-legal f = (
   record { may = (refl, tt, refl, refl, (tt, ([], refl))); known = λ e. tt; lawful = λ none. tt },
   (

@@ -2,12 +2,12 @@
 use Rattle.std.proofs.Common.{◌≡◌, ℕ, ◌<◌, [], ◌∷◌, ◌++◌, sym, ap, ◌∙◌}
 use Rattle.pair_history.specs.HistoryState.{HistoryState}
 use Rattle.growing_history.specs.Steps.{Step, steps_by}
-use Rattle.growing_history.specs.LogState.{Legal}
+use Rattle.growing_history.specs.LogState.{LegalSteps}
 use Rattle.growing_history.specs.Views.{View, IsKeeper, IsMember}
 use Rattle.growing_history.specs.Plays.{Meets, with_member, member_of, stepped}
 use Rattle.growing_history.specs.laws.Prefixes.{steps_by-own}
 
-pub IsKeeper-stepped : (start : HistoryState) (v : View) (x : Step) → IsKeeper start v → Legal start (v.steps ++ x ∷ [])
+pub IsKeeper-stepped : (start : HistoryState) (v : View) (x : Step) → IsKeeper start v → LegalSteps start (v.steps ++ x ∷ [])
     → IsKeeper start (stepped x v)
 IsKeeper-stepped start v x k legal = record { is = ap (stepped x) k.is; legal = legal }
 
@@ -16,7 +16,7 @@ module _ (start : HistoryState) (v w : View) (x : Step) (found : ℕ) where
   pub own_steps : x.by ≡ w.number → 0 < w.number → Meets (with_member v w) found → steps_by w.number (v.steps ++ x ∷ []) ≡ w.mine ++ x ∷ []
   own_steps by numbered met = steps_by-own w.number v.steps x by ∙ ap (λ l. l ++ x ∷ []) (sym (met.mine numbered).1)
 
-  pub IsMember-stepped : IsKeeper start v → x.by ≡ w.number → 0 < w.number → Meets (with_member v w) found → Legal start (v.steps ++ x ∷ [])
+  pub IsMember-stepped : IsKeeper start v → x.by ≡ w.number → 0 < w.number → Meets (with_member v w) found → LegalSteps start (v.steps ++ x ∷ [])
       → IsMember start (member_of (stepped x (with_member v w)) ∷ [])
   IsMember-stepped k by numbered met legal = record {
     is = ap (λ (u : View). member_of (stepped x (with_member u w)) ∷ []) k.is;

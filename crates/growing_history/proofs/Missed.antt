@@ -9,8 +9,8 @@ use Rattle.pair_history.specs.Order.{AreGuests, NoneTakes}
 use Rattle.pair_history.specs.Failures.{all_land}
 use Rattle.growing_history.specs.Steps.{What, Added, Sealed, RanAlone, Committed, PrimaryFailed, BackupFailed, WentLive, Protected, Step}
 use Rattle.growing_history.specs.Steps.{Begins, steps_by}
-use Rattle.growing_history.specs.LogState.{LogState, Epoch, start_of, entries_of, under_way, sealed_state, IsEpoch, after, Needs}
-use Rattle.growing_history.specs.LogState.{state_after, LegalFrom, Legal, state_at}
+use Rattle.growing_history.specs.LogState.{LogState, Epoch, start_of, entries_of, under_way, sealed_state, IsEpoch, after_step, Needs}
+use Rattle.growing_history.specs.LogState.{state_after, LegalFrom, LegalSteps, state_at}
 use Rattle.growing_history.specs.laws.Between.{none-first, none-between, same, earlier, later}
 use Rattle.pair_history.specs.laws.Histories.{at-append, legal-first, legal-second}
 use Rattle.growing_history.specs.laws.Logs.{stands, marked, marks-stay}
@@ -29,7 +29,7 @@ committed-state h (e ∷ es) = ap (λ l. at (at h l) (entries_of es)) (append-ni
 
 -- What was handed out stays so.
 handed-step : (s : LogState) (by : ℕ) (w : What) (n : ℕ) → Needs s (record { by = by; what = w }) → by ≢ n → s.runner ≡ n
-    → (after s w).runner ≡ n → (after s w).handed ≡ s.handed
+    → (after_step s w).runner ≡ n → (after_step s w).handed ≡ s.handed
 handed-step s by (Sealed x k epoch text) n needs other is now = absurd (other (needs.may.0 ∙ is))
 handed-step s by (RanAlone epoch) n needs other is now = absurd (other (needs.may.0 ∙ is))
 handed-step s by (WentLive r) n needs other is now = absurd (omega (arith, needs.may.2.0, is, now))
@@ -64,11 +64,11 @@ not-handed m n (k ∷ before) later a = not-handed m n before later a.1
 
 -- where clients called, or what was on its way landed or was dropped
 added-keeps : GoesFirst → (s : LogState) (by : ℕ) (es : List Entry) → Needs s (record { by = by; what = Added es })
-    → AreGuests (entries_of s.sealed) → history.Legal s.history (under_way s) → s.marked ≡ 0 → Keeps s (after s (Added es))
+    → AreGuests (entries_of s.sealed) → history.Legal s.history (under_way s) → s.marked ≡ 0 → Keeps s (after_step s (Added es))
 added-keeps go s by es needs g way none =
     let h = s.history in
     let sealed = entries_of s.sealed in
-    let front = legal-first h es (under_way (after s (Added es))) (needs.lawful none) in
+    let front = legal-first h es (under_way (after_step s (Added es))) (needs.lawful none) in
     record {
       guest = λ epoch e.
           ap (λ (x : HistoryState). x.guest) (sym (at-append (at h es) sealed epoch))
@@ -88,28 +88,28 @@ added-keeps go s by es needs g way none =
 -- one step of another
 step-keeps : GoesFirst → (s : LogState) (by : ℕ) (w : What) (n : ℕ) → Needs s (record { by = by; what = w })
     → AreGuests (entries_of s.sealed) → history.Legal s.history (under_way s) → s.marked ≡ 0 → by ≢ n → s.runner ≡ n
-    → (after s w).runner ≡ n → Keeps s (after s w)
+    → (after_step s w).runner ≡ n → Keeps s (after_step s w)
 step-keeps go s by (Added es) n needs g way none other is now = added-keeps go s by es needs g way none
 step-keeps go s by (Sealed x k epoch text) n needs g way none other is now = absurd (other (needs.may.0 ∙ is))
 step-keeps go s by (RanAlone epoch) n needs g way none other is now = absurd (other (needs.may.0 ∙ is))
 step-keeps go s by (Committed x k text) n needs g way none other is now =
-    same-keeps s (after s (Committed x k text)) (committed-state s.history s.sealed)
-step-keeps go s by PrimaryFailed n needs g way none other is now = same-keeps s (after s PrimaryFailed) refl
+    same-keeps s (after_step s (Committed x k text)) (committed-state s.history s.sealed)
+step-keeps go s by PrimaryFailed n needs g way none other is now = same-keeps s (after_step s PrimaryFailed) refl
 step-keeps go s by BackupFailed n needs g way none other is now =
     let far = sealed_state s in
     let apart = at-append s.history (entries_of s.sealed) (all_land far) in
     let leave = landings-unmoved far.boxes far.out far in
-    near-keeps s (after s BackupFailed) (ap (λ (h : HistoryState). h.guest) apart ∙ leave.0)
+    near-keeps s (after_step s BackupFailed) (ap (λ (h : HistoryState). h.guest) apart ∙ leave.0)
     (ap (λ (h : HistoryState). h.waiting) apart ∙ leave.1)
 step-keeps go s by (WentLive r) n needs g way none other is now = absurd (omega (arith, needs.may.2.0, is, now))
-step-keeps go s by (Protected b) n needs g way none other is now = same-keeps s (after s (Protected b)) refl
+step-keeps go s by (Protected b) n needs g way none other is now = same-keeps s (after_step s (Protected b)) refl
 
 -- Many steps.
 
 -- a runner that is live before the steps and after them is live after the first
 still-live : (s : LogState) (x : Step) (xs : List Step) (n : ℕ) → LegalFrom s (x ∷ xs) → s.runner ≡ n
-    → (state_after s (x ∷ xs)).runner ≡ n → (after s x.what).runner ≡ n
-still-live s x xs n l is now = omega (arith, (numbers s x.by x.what l.0).0, (numbers-rise (after s x.what) xs l.1).0, is, now)
+    → (state_after s (x ∷ xs)).runner ≡ n → (after_step s x.what).runner ≡ n
+still-live s x xs n l is now = omega (arith, (numbers s x.by x.what l.0).0, (numbers-rise (after_step s x.what) xs l.1).0, is, now)
 
 handed-steps : (s : LogState) (xs : List Step) (n : ℕ) → LegalFrom s xs → steps_by n xs ≡ [] → s.runner ≡ n
     → (state_after s xs).runner ≡ n → (state_after s xs).handed ≡ s.handed
@@ -117,14 +117,14 @@ handed-steps s [] n l others is now = refl
 handed-steps s (x ∷ xs) n l others is now =
     let apart = none-first n x xs others in
     let there = still-live s x xs n l is now in
-    handed-steps (after s x.what) xs n l.1 apart.1 there now ∙ handed-step s x.by x.what n l.0 apart.0 is there
+    handed-steps (after_step s x.what) xs n l.1 apart.1 there now ∙ handed-step s x.by x.what n l.0 apart.0 is there
 
 steps-keep : GoesFirst → (s : LogState) (xs : List Step) (n : ℕ) → LegalFrom s xs → AreGuests (entries_of s.sealed)
     → history.Legal s.history (under_way s) → (state_after s xs).marked ≡ 0 → steps_by n xs ≡ [] → s.runner ≡ n
     → (state_after s xs).runner ≡ n → Keeps s (state_after s xs)
 steps-keep go s [] n l g way none others is now = same-keeps s s refl
 steps-keep go s (x ∷ xs) n l g way none others is now =
-    let t = after s x.what in
+    let t = after_step s x.what in
     let apart = none-first n x xs others in
     let unmarked : s.marked ≡ 0 = omega (arith, marked s x.what, marks-stay t xs, none) in
     let there = still-live s x xs n l is now in
@@ -137,7 +137,7 @@ steps-keep go s (x ∷ xs) n l g way none others is now =
     }
 
 -- What the law says, of two lists from the start.
-module _ (h : HistoryState) (old now : List Step) (n : ℕ) (b : Begins old now) (l : Legal h now)
+module _ (h : HistoryState) (old now : List Step) (n : ℕ) (b : Begins old now) (l : LegalSteps h now)
     (own : steps_by n now ≡ steps_by n old) where
   pub handed-stays : (state_at h old).runner ≡ n → (state_at h now).runner ≡ n → (state_at h now).handed ≡ (state_at h old).handed
   unfolding state_at

@@ -9,7 +9,7 @@ use Rattle.atomic_table.specs.Table.{keeps, Allows, Splits, Joins}
 use Rattle.atomic_table.proofs.Lists.{at_set}
 use Rattle.pair_history.specs.HistoryState.{HistoryState}
 use Rattle.growing_history.specs.Steps.{Step}
-use Rattle.growing_history.specs.LogState.{Legal}
+use Rattle.growing_history.specs.LogState.{LegalSteps}
 use Rattle.growing_history.specs.Views.{View, unopened, nobody, keeper_view, Fits, Kept, Rule}
 use Rattle.growing_history.specs.Plays.{Opens, one_more, newcomer, with_member, without_member, member_of, Met, stepped, Counted}
 use Rattle.growing_history.specs.Plays.{saw, Looks, badge_of, heard}
@@ -185,7 +185,7 @@ module _ {S : Type 0} where
       (nobody_fits h.start h.log h.keeper h.enrolled h.owner other))
 
   -- the first seat gets to know where the history starts
-  pub opens : (id slots : ℕ) (h : HistoryState) (carried : List (ℕ × S)) → Legal h []
+  pub opens : (id slots : ℕ) (h : HistoryState) (carried : List (ℕ × S)) → LegalSteps h []
       → Allows (Rule {S = S}) slots id (unopened, carried) 0 (λ n. n) (λ n m. Opens h unopened n m.0 × (m.1 ≡ carried))
   opens id slots start carried lawful s h homes at bound =
       let f = h.fits id unopened at in
@@ -217,7 +217,7 @@ module _ {S : Type 0} where
         owner = h.owner;
         fits = fits_set F s.views id w other mine;
         word = word_left s.words (length h.log) h.word;
-        legal = λ x e. subst (λ (y : HistoryState). Legal y h.log) (some_is start x e) (subst (Legal start) k.2 lawful);
+        legal = λ x e. subst (λ (y : HistoryState). LegalSteps y h.log) (some_is start x e) (subst (LegalSteps start) k.2 lawful);
         fresh = h.fresh;
       } in
       (w, keeps, tt, kept, (refl, refl))
@@ -262,7 +262,7 @@ module _ {S : Type 0} where
 
   -- the keeper's step: the word rises by one, and the log by the step
   pub counts : (id slots : ℕ) (v : View) (carried : List (ℕ × S)) (start : HistoryState) (x : Step)
-      → v.keeps ≡ true → v.start ≡ Some start → x.by ≡ v.number → length v.steps < 2 ^ 62 → Legal start (v.steps ++ x ∷ [])
+      → v.keeps ≡ true → v.start ≡ Some start → x.by ≡ v.number → length v.steps < 2 ^ 62 → LegalSteps start (v.steps ++ x ∷ [])
       → Allows (Rule {S = S}) slots id (v, carried) 0 (λ n. (n + 1) % 2 ^ 64) (λ n m. Counted x v n m.0 × (m.1 ≡ carried))
   counts id slots v carried start x kept starts by room lawful s h homes at bound =
       let f = h.fits id v at in
@@ -296,8 +296,8 @@ module _ {S : Type 0} where
         owner = h.owner;
         fits = fits_set F s.views id w other mine;
         word = word_set s.words (length h.log) ((slice_index s.words 0 + 1) % 2 ^ 64) h.word ∙ ap (λ (m : ℕ). m ∷ []) risen;
-        legal = λ y e. subst (λ (z : HistoryState). Legal z log) (some_is start y (sym starts ∙ (k.1 ∙ e)))
-            (subst (λ l. Legal start (l ++ x ∷ [])) k.2 lawful);
+        legal = λ y e. subst (λ (z : HistoryState). LegalSteps z log) (some_is start y (sym starts ∙ (k.1 ∙ e)))
+            (subst (λ l. LegalSteps start (l ++ x ∷ [])) k.2 lawful);
         fresh = λ n lt. steps_by-other n h.log x (λ (e : x.by ≡ n). let m : v.number ≡ n = sym by ∙ e in
             absurd (omega (arith, m, lt, (f.mine (omega (arith, m, lt))).1))) ∙ h.fresh n lt;
       } in

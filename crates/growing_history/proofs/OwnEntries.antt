@@ -15,8 +15,8 @@ use Rattle.pair_history.specs.Landings.{landings}
 use Rattle.pair_history.specs.Failures.{all_land, drops_of_taken_in, rising, arrived_numbers}
 use Rattle.growing_history.specs.Steps.{What, Added, Sealed, RanAlone, Committed, PrimaryFailed, BackupFailed, WentLive, Protected, Step}
 use Rattle.growing_history.specs.Steps.{steps_by}
-use Rattle.growing_history.specs.LogState.{LogState, Epoch, start_of, entries_of, under_way, added, after, IsOwn, AreOwn, MayStep}
-use Rattle.growing_history.specs.LogState.{client_seat, LegalFrom, history_from, Legal, history_of}
+use Rattle.growing_history.specs.LogState.{LogState, Epoch, start_of, entries_of, under_way, added, after_step, IsOwn, AreOwn, MayStep}
+use Rattle.growing_history.specs.LogState.{client_seat, LegalFrom, history_from, LegalSteps, history_of}
 use Rattle.pair_history.specs.laws.Histories.{guests-first}
 use Rattle.growing_history.specs.Entries.{is_of, own_entries, announced_in, announced}
 use Rattle.growing_history.specs.laws.Sealed.{sealed-guests}
@@ -141,10 +141,10 @@ all-own : (c : ℕ) (s : LogState) (xs : List Step) → 1 ≤ c → LegalFrom s 
     → own_entries c (history_from s xs) ≡ announced (steps_by (client_seat c) xs)
 all-own c s [] p l g = refl
 all-own c s (x ∷ xs) p l g =
-    own-append c (added s x.what) (history_from (after s x.what) xs)
-    ∙ (ap (λ es. es ++ own_entries c (history_from (after s x.what) xs)) (added-own c s x.by x.what p l.0.may g)
+    own-append c (added s x.what) (history_from (after_step s x.what) xs)
+    ∙ (ap (λ es. es ++ own_entries c (history_from (after_step s x.what) xs)) (added-own c s x.by x.what p l.0.may g)
     ∙ (ap (λ es. cond (x.by == client_seat c) (announced_in x.what) [] ++ es)
-    (all-own c (after s x.what) xs p l.1 (sealed-guests s x.by x.what l.0.may g))
+    (all-own c (after_step s x.what) xs p l.1 (sealed-guests s x.by x.what l.0.may g))
     ∙ by_test (x.by == client_seat c)))
   where
     by_test : (t : Bool) → cond t (announced_in x.what) [] ++ announced (steps_by (client_seat c) xs)
@@ -152,7 +152,7 @@ all-own c s (x ∷ xs) p l g =
     by_test true = refl
     by_test false = refl
 
-pub history-own : (h : HistoryState) (xs : List Step) (c : ℕ) → 1 ≤ c → Legal h xs
+pub history-own : (h : HistoryState) (xs : List Step) (c : ℕ) → 1 ≤ c → LegalSteps h xs
     → own_entries c (history_of h xs) ≡ announced (steps_by (client_seat c) xs)
-unfolding Legal history_of
+unfolding LegalSteps history_of
 history-own h xs c p l = all-own c (start_of h) xs p l tt

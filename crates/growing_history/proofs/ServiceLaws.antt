@@ -8,24 +8,24 @@ use Rattle.pair_history.specs.HistoryState.{HistoryState, at}
 use Rattle.pair_history.specs.HistoryState as history
 use Rattle.pair_history.specs.Released.{account, WasSent, IsPartOf, IsSound}
 use Rattle.growing_history.specs.Steps.{Step}
-use Rattle.growing_history.specs.LogState.{Legal, state_at, under_way, history_of}
-use Rattle.growing_history.specs.Service.{Answers}
+use Rattle.growing_history.specs.LogState.{LegalSteps, state_at, under_way, history_of}
+use Rattle.growing_history.specs.Service.{GuestAnswers}
 use Rattle.pair_history.specs.laws.Histories.{legal-first, legal-second}
 use Rattle.growing_history.specs.laws.Logs.{history-lawful}
 
 -- what an entry needs says what it answers
-answered : (s : HistoryState) (e : Entry) → history.Allows s e → Answers s e
+answered : (s : HistoryState) (e : Entry) → history.Allows s e → GuestAnswers s e
 answered s (Delivered c f n) a = a
 answered s (Refused c f) a = a
 answered s (Took c (Some f)) a = (a.0, sym a.1)
 answered s (Took c None) a = (a.0, sym (ap (λ l. slice_get l 0) a.1))
 answered s other a = tt
 
-pub history-legal : (h : HistoryState) (xs : List Step) → Legal h xs → (state_at h xs).marked ≡ 0 → history.Legal h (history_of h xs)
+pub history-legal : (h : HistoryState) (xs : List Step) → LegalSteps h xs → (state_at h xs).marked ≡ 0 → history.Legal h (history_of h xs)
 history-legal h xs l none = legal-first h (history_of h xs) (under_way (state_at h xs)) (history-lawful h xs l none)
 
-pub answered-there : (h : HistoryState) (xs : List Step) → Legal h xs → (state_at h xs).marked ≡ 0
-    → (before later : List Entry) (e : Entry) → history_of h xs ≡ before ++ e ∷ later → Answers (at h before) e
+pub answered-there : (h : HistoryState) (xs : List Step) → LegalSteps h xs → (state_at h xs).marked ≡ 0
+    → (before later : List Entry) (e : Entry) → history_of h xs ≡ before ++ e ∷ later → GuestAnswers (at h before) e
 answered-there h xs l none before later e is =
     answered (at h before) e (legal-second h before (e ∷ later) (subst (history.Legal h) is (history-legal h xs l none))).0
 

@@ -8,8 +8,8 @@ use Rattle.pair_history.specs.Order.{AreGuests}
 use Rattle.growing_history.specs.Steps.{What, Added, Sealed, RanAlone, Committed, PrimaryFailed, BackupFailed, WentLive, Protected, Step}
 use Rattle.failover.specs.declared.mode.Mode.{Mode}
 use Rattle.failover.specs.declared.mode.Mode.TheVariants.{Paired, Filling, Alone, Stopped}
-use Rattle.growing_history.specs.LogState.{LogState, mode_filled, Epoch, start_of, entries_of, AreOwn, AreKnown}
-use Rattle.growing_history.specs.LogState.{under_way, IsAlone, HasBackup, MaySeal, after, Needs, state_after, LegalFrom, Legal}
+use Rattle.growing_history.specs.LogState.{LogState, Epoch, start_of, entries_of, AreOwn, AreKnown}
+use Rattle.growing_history.specs.LogState.{under_way, IsAlone, HasBackup, MaySeal, after_step, Needs, state_after, LegalFrom, LegalSteps}
 use Rattle.growing_history.specs.LogState.{state_at}
 use Rattle.growing_history.specs.SealedTexts.{Reading, Makes, IsMade, AreMadeFrom, AreMade, MakeInTurn}
 use Rattle.pair_history.specs.laws.Histories.{at-append, legal-first}
@@ -19,6 +19,7 @@ use Rattle.growing_history.proofs.Epochs.{takes-first, same_sent}
 use Rattle.growing_history.specs.laws.Sealed.{entries-append, sealed-guests}
 use Rattle.growing_history.proofs.LinesFirst.{GoesFirst, lines-guest}
 use Rattle.growing_history.specs.laws.Texts.{makes-same}
+use Rattle.failover.specs.Modes.{mode_filled}
 
 -- a node that is alone has nothing sealed
 no-alone : (m : Mode) → HasBackup m → IsAlone m → ⊥
@@ -41,7 +42,7 @@ filled-alone Alone a = a
 filled-alone Stopped a = a
 
 alone-empty : (s : LogState) (by : ℕ) (w : What) → Needs s (record { by = by; what = w }) → (IsAlone s.mode → s.sealed ≡ [])
-    → IsAlone (after s w).mode → (after s w).sealed ≡ []
+    → IsAlone (after_step s w).mode → (after_step s w).sealed ≡ []
 alone-empty s by (Added es) needs e a = e a
 alone-empty s by (Sealed g zero epoch text) needs e a = absurd (seals-paired 0 s.mode needs.may.1 a)
 alone-empty s by (Sealed g (suc n) epoch text) needs e a = absurd (seals-paired (suc n) s.mode needs.may.1 a)
@@ -133,7 +134,7 @@ module _ (reads : Reading) where
   -- one step
   turn-step : GoesFirst → (s : LogState) (by : ℕ) (w : What) → Needs s (record { by = by; what = w }) → AreGuests (entries_of s.sealed)
       → history.Legal s.history (under_way s) → s.marked ≡ 0 → (IsAlone s.mode → s.sealed ≡ []) → IsMade reads s w
-      → MakeInTurn reads s.history [] s.sealed → MakeInTurn reads (after s w).history [] (after s w).sealed
+      → MakeInTurn reads s.history [] s.sealed → MakeInTurn reads (after_step s w).history [] (after_step s w).sealed
   turn-step go s by (Added es) needs g way none empty made m =
       turn-added go by es s.history s.sealed [] (map Arrive s.handed) tt g needs.may (needs.known none)
       (legal-first s.history es _ (needs.lawful none)) way m
@@ -145,7 +146,7 @@ module _ (reads : Reading) where
       turn-last s.history [] s.sealed e m
       (makes-same reads (suc n) text _ _ _ _ _ _ refl refl (ap (λ l. (at s.history l).guest) all) (made none))
   turn-step go s by (RanAlone epoch) needs g way none empty made m =
-      subst (λ es. MakeInTurn reads (after s (RanAlone epoch)).history [] es) (sym (empty needs.may.1)) tt
+      subst (λ es. MakeInTurn reads (after_step s (RanAlone epoch)).history [] es) (sym (empty needs.may.1)) tt
   turn-step go s by (Committed x n text) needs g way none empty made m = first_gone s.sealed m
     where
       first_gone : (es : List Epoch) → MakeInTurn reads s.history [] es
@@ -164,13 +165,13 @@ module _ (reads : Reading) where
       → MakeInTurn reads s.history [] s.sealed → MakeInTurn reads (state_after s xs).history [] (state_after s xs).sealed
   turn-steps go s [] l g way none empty made m = m
   turn-steps go s (x ∷ xs) l g way none empty made m =
-      let t = after s x.what in
+      let t = after_step s x.what in
       let unmarked : s.marked ≡ 0 = omega (arith, marked s x.what, marks-stay t xs, none) in
       turn-steps go t xs l.1 (sealed-guests s x.by x.what l.0.may g) (way-after s x l.0 unmarked) none
       (alone-empty s x.by x.what l.0 empty) made.1
       (turn-step go s x.by x.what l.0 g way unmarked empty made.0 m)
 
-  pub texts-in-turn : GoesFirst → (h : HistoryState) (xs : List Step) → Legal h xs → AreMade reads h xs → (state_at h xs).marked ≡ 0
+  pub texts-in-turn : GoesFirst → (h : HistoryState) (xs : List Step) → LegalSteps h xs → AreMade reads h xs → (state_at h xs).marked ≡ 0
       → MakeInTurn reads (state_at h xs).history [] (state_at h xs).sealed
-  unfolding Legal state_at AreMade
+  unfolding LegalSteps state_at AreMade
   texts-in-turn go h xs l made none = turn-steps go (start_of h) xs l tt tt none (λ a. absurd a) made tt

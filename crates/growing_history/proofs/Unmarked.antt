@@ -7,8 +7,8 @@ use Rattle.std.specs.Prelude.{nat_eq, ◌==◌}
 use Rattle.pair_history.specs.Entries.{Entry}
 use Rattle.pair_history.specs.HistoryState.{HistoryState}
 use Rattle.growing_history.specs.FirstGeneration.{AreUnmarked, CommitsSealed}
-use Rattle.growing_history.specs.LogState.{LogState, Epoch, start_of, first_backup, mark_of, IsFirstSealed, after, Needs, state_after}
-use Rattle.growing_history.specs.LogState.{LegalFrom, Legal, state_at}
+use Rattle.growing_history.specs.LogState.{LogState, Epoch, start_of, first_backup, mark_of, IsFirstSealed, after_step, Needs, state_after}
+use Rattle.growing_history.specs.LogState.{LegalFrom, LegalSteps, state_at}
 use Rattle.growing_history.specs.Steps.{What, Added, Sealed, RanAlone, Committed, PrimaryFailed, BackupFailed, WentLive, Protected, Step}
 use Rattle.growing_history.specs.Steps.{step, Begins, steps_by}
 use Rattle.growing_history.specs.laws.Between.{none-first, none-between, same, later}
@@ -22,32 +22,32 @@ record IsFirst (s : LogState) : Type 0 where
   pub some : 1 ≤ s.generation
   pub backup : s.generation ≡ 1 → s.backup ≡ first_backup
 
-first-step : (s : LogState) (by : ℕ) (w : What) → IsFirst s → IsFirst (after s w)
+first-step : (s : LogState) (by : ℕ) (w : What) → IsFirst s → IsFirst (after_step s w)
 first-step s by (WentLive r) h = record { some = omega arith; backup = λ one. absurd (omega (arith, one, h.some)) }
 first-step s by (Protected b) h = record { some = omega arith; backup = λ one. absurd (omega (arith, one, h.some)) }
 first-step s by another h = record { some = h.some; backup = h.backup }
 
 first-steps : (s : LogState) (xs : List Step) → IsFirst s → IsFirst (state_after s xs)
 first-steps s [] h = h
-first-steps s (x ∷ xs) h = first-steps (after s x.what) xs (first-step s x.by x.what h)
+first-steps s (x ∷ xs) h = first-steps (after_step s x.what) xs (first-step s x.by x.what h)
 
 start-first : (h : HistoryState) → IsFirst (start_of h)
 start-first h = record { some = omega arith; backup = λ one. refl }
 
 -- generations only rise
-rises : (s : LogState) (w : What) → s.generation ≤ (after s w).generation
+rises : (s : LogState) (w : What) → s.generation ≤ (after_step s w).generation
 rises s (WentLive r) = omega arith
 rises s (Protected b) = omega arith
 rises s another = omega arith
 
 all-rise : (s : LogState) (xs : List Step) → s.generation ≤ (state_after s xs).generation
 all-rise s [] = omega arith
-all-rise s (x ∷ xs) = omega (arith, rises s x.what, all-rise (after s x.what) xs)
+all-rise s (x ∷ xs) = omega (arith, rises s x.what, all-rise (after_step s x.what) xs)
 
 -- STEPS OF OTHERS
 
 other-marks : (s : LogState) (by : ℕ) (w : What) (n : ℕ) → Needs s (record { by = by; what = w }) → by ≢ n → s.backup ≡ n
-    → (after s w).marked ≡ s.marked
+    → (after_step s w).marked ≡ s.marked
 other-marks s by (Committed g k text) n needs other is = absurd (other (needs.may.0 ∙ is))
 other-marks s by another n needs other is = refl
 
@@ -55,7 +55,7 @@ others-mark : (s : LogState) (xs : List Step) → LegalFrom s xs → steps_by fi
     → (state_after s xs).generation ≡ 1 → (state_after s xs).marked ≡ s.marked
 others-mark s [] l others h one = refl
 others-mark s (x ∷ xs) l others h one =
-    let t = after s x.what in
+    let t = after_step s x.what in
     let apart = none-first first_backup x xs others in
     let here : s.generation ≡ 1 = omega (arith, h.some, rises s x.what, all-rise t xs, one) in
     others-mark t xs l.1 apart.1 (first-step s x.by x.what h) one
@@ -89,7 +89,7 @@ record IsOnly (g n : ℕ) (text : List ℕ) (s : LogState) : Type 0 where
   pub texts : s.generation ≡ g → HaveText n text s.sealed
 
 only-step : (g n : ℕ) (text : List ℕ) (s : LogState) (by : ℕ) (w : What) → Needs s (record { by = by; what = w }) → IsOnly g n text s
-    → IsOnly g n text (after s w)
+    → IsOnly g n text (after_step s w)
 only-step g n text s by (Added es) needs h = record { late = h.late; next = h.next; texts = h.texts }
 only-step g n text s by (Sealed x zero epoch new) needs h =
     let is : 0 ≡ s.next = needs.may.3 in
@@ -126,10 +126,10 @@ only-step g n text s by (Protected b) needs h = record {
 only-steps : (g n : ℕ) (text : List ℕ) (s : LogState) (xs : List Step) → LegalFrom s xs → IsOnly g n text s
     → IsOnly g n text (state_after s xs)
 only-steps g n text s [] l h = h
-only-steps g n text s (x ∷ xs) l h = only-steps g n text (after s x.what) xs l.1 (only-step g n text s x.by x.what l.0 h)
+only-steps g n text s (x ∷ xs) l h = only-steps g n text (after_step s x.what) xs l.1 (only-step g n text s x.by x.what l.0 h)
 
 sealed-only : (g n : ℕ) (text : List ℕ) (s : LogState) (by : ℕ) (epoch : List Entry)
-    → Needs s (record { by = by; what = Sealed g n epoch text }) → AreSealed s → IsOnly g n text (after s (Sealed g n epoch text))
+    → Needs s (record { by = by; what = Sealed g n epoch text }) → AreSealed s → IsOnly g n text (after_step s (Sealed g n epoch text))
 sealed-only g zero text s by epoch needs k =
     record { late = omega (arith, needs.may.2); next = λ same. omega arith; texts = λ same. (λ is. refl, tt) }
 sealed-only g (suc n) text s by epoch needs k =
@@ -151,9 +151,9 @@ no-mark n text [] is h = absurd is
 no-mark n text (e ∷ es) is h = rw (h.0 is) (rw (itself text) refl)
 
 -- of two lists from the start
-pub others-unmarked : (h : HistoryState) (old now : List Step) → Begins old now → Legal h now
+pub others-unmarked : (h : HistoryState) (old now : List Step) → Begins old now → LegalSteps h now
     → steps_by first_backup now ≡ steps_by first_backup old → AreUnmarked h old → AreUnmarked h now
-unfolding Legal state_at
+unfolding LegalSteps state_at
 others-unmarked h old now b l own was one =
     let s = state_after (start_of h) old in
     let goes : state_after (start_of h) now ≡ state_after s b.0 = same h old now b in
@@ -165,10 +165,10 @@ others-unmarked h old now b l own was one =
 
 -- A text that was sealed is committed: that makes no mark.
 sealed-unmarked : (h : HistoryState) (before later : List Step) (by c g n : ℕ) (epoch : List Entry) (text : List ℕ)
-    → Legal h ((before ++ step by (Sealed g n epoch text) ∷ later) ++ step c (Committed g n text) ∷ [])
+    → LegalSteps h ((before ++ step by (Sealed g n epoch text) ∷ later) ++ step c (Committed g n text) ∷ [])
     → (state_at h ((before ++ step by (Sealed g n epoch text) ∷ later) ++ step c (Committed g n text) ∷ [])).marked
     ≡ (state_at h (before ++ step by (Sealed g n epoch text) ∷ later)).marked
-unfolding Legal state_at
+unfolding LegalSteps state_at
 sealed-unmarked h before later by c g n epoch text l =
     let start = start_of h in
     let x = step by (Sealed g n epoch text) in
@@ -179,15 +179,15 @@ sealed-unmarked h before later by c g n epoch text l =
     let legal : LegalFrom start all = first start all (y ∷ []) l in
     let last : Needs t y = (second start all (y ∷ []) l).0 in
     let there : LegalFrom s (x ∷ later) = second start before (x ∷ later) legal in
-    let only : IsOnly g n text (state_after (after s x.what) later) =
-    only-steps g n text (after s x.what) later there.1
+    let only : IsOnly g n text (state_after (after_step s x.what) later) =
+    only-steps g n text (after_step s x.what) later there.1
     (sealed-only g n text s by epoch there.0 (are-sealed h before (first start before (x ∷ later) legal))) in
     let only' : IsOnly g n text t = subst (IsOnly g n text) (sym (state-append start before (x ∷ later))) only in
     let none : mark_of t.sealed text ≡ 0 = no-mark n text t.sealed last.may.3 (only'.texts (sym last.may.2)) in
     ap (λ (u : LogState). u.marked) (state-append start all (y ∷ [])) ∙ omega (arith, none)
 
 -- The first backup's own commit, of a text that was sealed in what it had seen, comes after steps of others.
-module _ (h : HistoryState) (old now : List Step) (c : CommitsSealed old now) (l : Legal h now) where
+module _ (h : HistoryState) (old now : List Step) (c : CommitsSealed old now) (l : LegalSteps h now) where
   abbrev x : Step
   x = step first_backup (Committed c.generation c.number c.text)
 
@@ -198,7 +198,7 @@ module _ (h : HistoryState) (old now : List Step) (c : CommitsSealed old now) (l
   log = old ++ c.between
 
   legal : LegalFrom (start_of h) (log ++ x ∷ [])
-  unfolding Legal
+  unfolding LegalSteps
   legal = subst (LegalFrom (start_of h)) c.is l
 
   others : steps_by first_backup log ≡ steps_by first_backup old
@@ -209,11 +209,11 @@ module _ (h : HistoryState) (old now : List Step) (c : CommitsSealed old now) (l
       (sym apart ∙ ap (λ (xs : List Step). steps_by first_backup xs) (sym c.is) ∙ c.own)
 
   pub own-commit-unmarked : AreUnmarked h old → AreUnmarked h now
-  unfolding Legal state_at
+  unfolding LegalSteps state_at
   own-commit-unmarked was one =
       let start = start_of h in
       let s = state_after start log in
-      let ends : state_after start now ≡ after s x.what = ap (state_after start) c.is ∙ state-append start log (x ∷ []) in
+      let ends : state_after start now ≡ after_step s x.what = ap (state_after start) c.is ∙ state-append start log (x ∷ []) in
       let then : s.generation ≡ 1 = ap (λ (t : LogState). t.generation) (sym ends) ∙ one in
       let none : s.marked ≡ 0 = others-unmarked h old log (c.between, refl) (first start log (x ∷ []) legal) others was then in
       let all = c.later ++ c.between in

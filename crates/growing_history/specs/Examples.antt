@@ -5,7 +5,7 @@ use Rattle.pair_history.specs.Entries.{Frame, Delivered, DropIn, Land, DropOut, 
 use Rattle.pair_history.specs.HistoryState.{HistoryState, start_state}
 use Rattle.growing_history.specs.Steps.{What, Added, Sealed, Committed, PrimaryFailed, BackupFailed, WentLive, Protected, Step, step}
 use Rattle.growing_history.specs.Steps.{steps_by}
-use Rattle.growing_history.specs.LogState.{LogState, start_of, after, added, client_seat}
+use Rattle.growing_history.specs.LogState.{LogState, start_of, after_step, added, client_seat}
 
 abbrev pub two_clients : HistoryState
 two_clients = start_state 1 1 [] 2
@@ -17,7 +17,7 @@ found_empty c = step (client_seat c) (Added (Took c None ∷ []))
 -- where these lead
 abbrev pub run_from : LogState → List What → LogState
 run_from s [] = s
-run_from s (w ∷ ws) = run_from (after s w) ws
+run_from s (w ∷ ws) = run_from (after_step s w) ws
 
 abbrev pub run : List What → LogState
 run ws = run_from (start_of two_clients) ws

@@ -12,6 +12,7 @@ use Rattle.pair_history.specs.Order.{AreGuests, NoneTakes}
 use Rattle.pair_history.specs.Landings.{IsAtFull}
 use Rattle.pair_history.specs.Failures.{arrived_numbers, all_land, go_live_entries, fail_backup_entries}
 use Rattle.growing_history.specs.Steps.{What, Added, Sealed, RanAlone, Committed, PrimaryFailed, BackupFailed, WentLive, Protected, Step}
+use Rattle.failover.specs.Modes.{mode_filled}
 
 -- an epoch that was sealed and isn't committed
 pub record Epoch : Type 0 where
@@ -110,35 +111,30 @@ abbrev pub sealed_after : LogState → ℕ → List Entry → List ℕ → List 
 sealed_after s zero epoch text = record { number = 0; entries = []; text = text } ∷ []
 sealed_after s (suc n) epoch text = s.sealed ++ record { number = suc n; entries = epoch; text = text } ∷ []
 
--- a filling pair is paired once a checkpoint was committed
-abbrev pub mode_filled : Mode → Mode
-mode_filled Filling = Paired
-mode_filled other = other
-
 -- a commit counts as marked where its text isn't that of the sealed epoch
 abbrev pub mark_of : List Epoch → List ℕ → ℕ
 mark_of [] text = 0
 mark_of (e ∷ es) text = if pointwise nat_eq e.text text then 0 else 1
 
 -- What a step does. A backup that goes live goes on behind its last commit, and what was sealed after that counts for nothing.
-abbrev pub after : LogState → What → LogState
-after s (Added es) = record s { history = at s.history es }
-after s (Sealed g n epoch text) =
+abbrev pub after_step : LogState → What → LogState
+after_step s (Added es) = record s { history = at s.history es }
+after_step s (Sealed g n epoch text) =
     let h = at s.history (added s (Sealed g n epoch text)) in
     let now = sealed_after s n epoch text in
     record s { history = h; sealed = now; next = n + 1; handed = handed_after s epoch (at h (entries_of now)) }
-after s (RanAlone epoch) =
+after_step s (RanAlone epoch) =
     let h = at s.history (added s (RanAlone epoch)) in
     record s { history = h; handed = handed_after s epoch h }
-after s (Committed g n text) = record s {
+after_step s (Committed g n text) = record s {
   history = at s.history (added s (Committed g n text));
   mode = mode_filled s.mode;
   sealed = drop 1 s.sealed;
   marked = s.marked + mark_of s.sealed text;
 }
-after s PrimaryFailed = record s { mode = Stopped }
-after s BackupFailed = record s { history = at s.history (added s BackupFailed); mode = Alone; sealed = [] }
-after s (WentLive r) = record s {
+after_step s PrimaryFailed = record s { mode = Stopped }
+after_step s BackupFailed = record s { history = at s.history (added s BackupFailed); mode = Alone; sealed = [] }
+after_step s (WentLive r) = record s {
   history = at s.history (added s (WentLive r));
   mode = Alone;
   generation = s.generation + 1;
@@ -147,7 +143,7 @@ after s (WentLive r) = record s {
   handed = [];
   runner = r;
 }
-after s (Protected b) = record s { mode = Filling; generation = s.generation + 1; next = 0; backup = b }
+after_step s (Protected b) = record s { mode = Filling; generation = s.generation + 1; next = 0; backup = b }
 
 -- whose entry it is: a client's own, a loss of the line's, or the keeper's for what lands or finds a full box
 abbrev pub IsOwn : ℕ → Entry → Type 0
@@ -201,10 +197,6 @@ MaySeal zero Filling = Unit {0}
 MaySeal zero other = ⊥
 MaySeal (suc n) mode = HasBackup mode
 
-abbrev pub is_filling : Mode → Bool
-is_filling Filling = true
-is_filling other = false
-
 abbrev pub IsAlone : Mode → Type 0
 IsAlone Alone = Unit {0}
 IsAlone other = ⊥
@@ -229,26 +221,26 @@ MayStep s by (Protected b) = (by ≡ 0) × IsAlone s.mode × IsNew s b
 pub record Needs (s : LogState) (x : Step) : Type 0 where
   pub may : MayStep s x.by x.what
   pub known : s.marked ≡ 0 → DropsKnown s x.by x.what
-  pub lawful : s.marked ≡ 0 → history.Legal s.history (added s x.what ++ under_way (after s x.what))
+  pub lawful : s.marked ≡ 0 → history.Legal s.history (added s x.what ++ under_way (after_step s x.what))
 
 -- the state that steps lead to
 abbrev pub state_after : LogState → List Step → LogState
 state_after s [] = s
-state_after s (x ∷ xs) = state_after (after s x.what) xs
+state_after s (x ∷ xs) = state_after (after_step s x.what) xs
 
 -- each step has what it needs in its turn
 abbrev pub LegalFrom : LogState → List Step → Type 0
 LegalFrom s [] = Unit {0}
-LegalFrom s (x ∷ xs) = Needs s x × LegalFrom (after s x.what) xs
+LegalFrom s (x ∷ xs) = Needs s x × LegalFrom (after_step s x.what) xs
 
 -- the entries that steps add, one after another
 abbrev pub history_from : LogState → List Step → List Entry
 history_from s [] = []
-history_from s (x ∷ xs) = added s x.what ++ history_from (after s x.what) xs
+history_from s (x ∷ xs) = added s x.what ++ history_from (after_step s x.what) xs
 
 -- A legal list of steps of a pair that starts at that state of the history.
-unfoldable pub Legal : HistoryState → List Step → Type 0
-Legal h xs = LegalFrom (start_of h) xs
+unfoldable pub LegalSteps : HistoryState → List Step → Type 0
+LegalSteps h xs = LegalFrom (start_of h) xs
 
 -- The state at a list of steps.
 unfoldable pub state_at : HistoryState → List Step → LogState

@@ -3,7 +3,7 @@ use Rattle.std.specs.Prelude.{◌≡◌, ℕ, ◌+◌, ◌<◌, ◌≤◌, false
 use Rattle.atomic_table.specs.Table as table
 use Rattle.pair_history.specs.HistoryState.{HistoryState}
 use Rattle.growing_history.specs.Steps.{Step, Begins, steps_by}
-use Rattle.growing_history.specs.LogState.{Legal}
+use Rattle.growing_history.specs.LogState.{LegalSteps}
 use Rattle.growing_history.specs.Views.{View, keeper_view}
 
 -- a seat that holds no slot, as none here does
@@ -60,7 +60,7 @@ pub record Looks (v : View) (found : ℕ) (w : View) : Type 0 where
   pub steps : Begins v.steps w.steps
   pub told : Begins v.told w.steps
   pub mine : 0 < v.number → v.mine ≡ steps_by v.number w.steps
-  pub legal : (h : HistoryState) → v.start ≡ Some h → Legal h w.steps
+  pub legal : (h : HistoryState) → v.start ≡ Some h → LegalSteps h w.steps
 
 -- a seat's badge, which has seen what it has; and a seat that heard of it
 abbrev pub badge_of : View → View

@@ -5,7 +5,7 @@ use Rattle.guest_machine.specs.Guest.{Guest}
 use Rattle.pair_history.specs.Entries.{Frame, Entry}
 use Rattle.pair_history.specs.HistoryState.{HistoryState, at, sent_along}
 use Rattle.growing_history.specs.Steps.{What, Sealed, Step}
-use Rattle.growing_history.specs.LogState.{LogState, Epoch, sealed_state, after, start_of}
+use Rattle.growing_history.specs.LogState.{LogState, Epoch, sealed_state, after_step, start_of}
 
 -- a relation between a text, the frames that it carries, the guest that it is read over, and the guest that it makes of that
 abbrev pub Reading : Type 1
@@ -26,12 +26,12 @@ epoch_sent s (suc n) epoch = sent_along (sealed_state s) epoch
 abbrev pub IsMade : Reading → LogState → What → Type 0
 IsMade reads s (Sealed g n epoch text) =
     s.marked ≡ 0
-    → Makes reads n text (epoch_sent s n epoch) (sealed_state s).guest (sealed_state (after s (Sealed g n epoch text))).guest
+    → Makes reads n text (epoch_sent s n epoch) (sealed_state s).guest (sealed_state (after_step s (Sealed g n epoch text))).guest
 IsMade reads s other = Unit {0}
 
 abbrev pub AreMadeFrom : Reading → LogState → List Step → Type 0
 AreMadeFrom reads s [] = Unit {0}
-AreMadeFrom reads s (x ∷ xs) = IsMade reads s x.what × AreMadeFrom reads (after s x.what) xs
+AreMadeFrom reads s (x ∷ xs) = IsMade reads s x.what × AreMadeFrom reads (after_step s x.what) xs
 
 -- each step of the list, in its turn
 unfoldable pub AreMade : Reading → HistoryState → List Step → Type 0

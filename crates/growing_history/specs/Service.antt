@@ -9,8 +9,8 @@ use Rattle.pair_history.specs.HistoryState.{HistoryState, IsClient, inbox_of}
 
 -- The answer to a client's call, by the state there: its frame gets the next number; or it isn't taken, since 64 of its frames wait; or
 -- it takes the front of its box, nothing where that is empty.
-abbrev pub Answers : HistoryState → Entry → Type 0
-Answers s (Delivered c f n) = IsClient s c × IsFrame f × (n ≡ s.number)
-Answers s (Refused c f) = IsClient s c × IsFrame f × (inbox_frames ≤ length (inbox_of c s.waiting))
-Answers s (Took c answer) = IsClient s c × (answer ≡ slice_get (list_of s.boxes c) 0)
-Answers s other = Unit {0}
+abbrev pub GuestAnswers : HistoryState → Entry → Type 0
+GuestAnswers s (Delivered c f n) = IsClient s c × IsFrame f × (n ≡ s.number)
+GuestAnswers s (Refused c f) = IsClient s c × IsFrame f × (inbox_frames ≤ length (inbox_of c s.waiting))
+GuestAnswers s (Took c answer) = IsClient s c × (answer ≡ slice_get (list_of s.boxes c) 0)
+GuestAnswers s other = Unit {0}

@@ -6,7 +6,7 @@ use Rattle.atomic_table.specs.Seated.{TableId}
 use Rattle.atomic_table.specs.Table.{State}
 use Rattle.pair_history.specs.HistoryState.{HistoryState, start_state}
 use Rattle.growing_history.specs.Steps.{Step, Begins, steps_by}
-use Rattle.growing_history.specs.LogState.{Legal}
+use Rattle.growing_history.specs.LogState.{LegalSteps}
 
 pub record View : Type 0 where
   -- where the history started, once the seats have been given out
@@ -68,7 +68,7 @@ pub record Kept (words : List ℕ) (views : List View) : Type 0 where
   pub owner : ℕ → ℕ
   pub fits : (place : ℕ) (v : View) → get_elem? views place ≡ plain.some v → Fits start log keeper enrolled owner place v
   pub word : words ≡ length log ∷ []
-  pub legal : (h : HistoryState) → start ≡ Some h → Legal h log
+  pub legal : (h : HistoryState) → start ≡ Some h → LegalSteps h log
   pub fresh : (n : ℕ) → enrolled < n → steps_by n log ≡ []
 
 abbrev pub Rule : {S : Type 0} → State S View → Type 0
@@ -98,16 +98,16 @@ member_in vs = record { number = (only_view vs).number; steps = (only_view vs).s
 -- The seat's view is the keeper's, of a legal log.
 pub record IsKeeper (start : HistoryState) (v : View) : Type 0 where
   pub is : v ≡ keeper_view start v.enrolled v.steps v.mine
-  pub legal : Legal start v.steps
+  pub legal : LegalSteps start v.steps
 
 -- The seat's view is a member's, who has seen a legal list, and in it all its own steps.
 pub record IsMember (start : HistoryState) (vs : List View) : Type 0 where
   pub is : vs ≡ member_view start (only_view vs).number (only_view vs).steps (only_view vs).mine ∷ []
   pub mine : (only_view vs).mine ≡ steps_by (only_view vs).number (only_view vs).steps
-  pub legal : Legal start (only_view vs).steps
+  pub legal : LegalSteps start (only_view vs).steps
   pub numbered : 0 < (only_view vs).number
 
 -- The seat's view is a badge's, who has seen a legal list.
 pub record IsBadge (start : HistoryState) (vs : List View) : Type 0 where
   pub is : vs ≡ badge_view start (only_view vs).steps ∷ []
-  pub legal : Legal start (only_view vs).steps
+  pub legal : LegalSteps start (only_view vs).steps

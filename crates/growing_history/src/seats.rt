@@ -1,7 +1,7 @@
 //! The keeper's seat, and those of its members.
 ghost use Rattle.std.specs.Prelude.{◌≡◌, ◌+◌, ◌^◌, ◌<◌, ◌++◌, [], ◌∷◌, true, false, length, Some};
 ghost use Rattle.growing_history.specs.Steps.{step, Begins, steps_by};
-ghost use Rattle.growing_history.specs.LogState.{Legal};
+ghost use Rattle.growing_history.specs.LogState.{LegalSteps};
 ghost use Rattle.growing_history.specs.Views.{View, unopened, only_view};
 ghost use Rattle.growing_history.specs.Plays.{Meets, Looks, badge_of, heard, one_more, newcomer, with_member, without_member, member_of};
 ghost use Rattle.growing_history.specs.Plays.{stepped};
@@ -139,7 +139,7 @@ fn count<P: Pair, S: Announced, W: Tells>(clock: &Clock<P>, keeper: &mut Seat<()
     requires step { S.step ≡ step keeper.old.me.0.number (W.what _what.now) }
     requires room { length keeper.old.me.0.steps < 2 ^ 62 }
     requires start { keeper.old.me.0.start ≡ Some P.start }
-    requires legal { Legal P.start (keeper.old.me.0.steps ++ step keeper.old.me.0.number (W.what _what.now) ∷ []) }
+    requires legal { LegalSteps P.start (keeper.old.me.0.steps ++ step keeper.old.me.0.number (W.what _what.now) ∷ []) }
     ensures word { keeper.new.table_id ≡ P.word }
     ensures keeper { keeper.new.me ≡ (stepped (step keeper.old.me.0.number (W.what _what.now)) keeper.old.me.0, []) }
     ensures meets { Meets keeper.old.me.0 (length keeper.old.me.0.steps) }
@@ -201,7 +201,7 @@ impl<P: Pair> KeeperSeat<P> {
     pub fn count(&self) -> u64
         ensures count { result ≡ length self.now.steps }
         // What is true of every keeper's seat.
-        ensures legal { Legal P.start self.now.steps }
+        ensures legal { LegalSteps P.start self.now.steps }
     {
         self.count
     }
@@ -233,7 +233,7 @@ impl<P: Pair> KeeperSeat<P> {
     /// Makes a step for a member, who has then seen the whole log, and the step last in it.
     pub fn step<W: Tells>(&mut self, clock: &Clock<P>, member: &mut MemberSeat<P>, what: &W)
         requires room { length self.old.steps < 2 ^ 62 }
-        requires legal { Legal P.start (self.old.steps ++ step member.old.number (W.what what.now) ∷ []) }
+        requires legal { LegalSteps P.start (self.old.steps ++ step member.old.number (W.what what.now) ∷ []) }
         ensures keeper { self.new ≡ record self.old { steps = self.old.steps ++ step member.old.number (W.what what.now) ∷ [] } }
         ensures member { member.new ≡ record { number = member.old.number; steps = self.new.steps } }
         ensures before { Begins member.old.steps self.old.steps }
@@ -254,7 +254,7 @@ impl<P: Pair> KeeperSeat<P> {
         ensures member { member.new ≡ record { number = member.old.number; steps = self.old.steps } }
         ensures before { Begins member.old.steps self.old.steps }
         ensures own { steps_by member.old.number self.old.steps ≡ steps_by member.old.number member.old.steps }
-        ensures legal { Legal P.start self.old.steps }
+        ensures legal { LegalSteps P.start self.old.steps }
     {
         let seat = mem::replace(&mut member.seat, Resting::blank());
         lend(clock, &mut self.seat, seat);
@@ -265,7 +265,7 @@ impl<P: Pair> KeeperSeat<P> {
     /// Makes a step that is no member's.
     pub fn step_alone<W: Tells>(&mut self, clock: &Clock<P>, what: &W)
         requires room { length self.old.steps < 2 ^ 62 }
-        requires legal { Legal P.start (self.old.steps ++ step 0 (W.what what.now) ∷ []) }
+        requires legal { LegalSteps P.start (self.old.steps ++ step 0 (W.what what.now) ∷ []) }
         ensures { self.new ≡ record self.old { steps = self.old.steps ++ step 0 (W.what what.now) ∷ [] } }
     {
         count::<P, Brand, W>(clock, &mut self.seat, what);
@@ -279,7 +279,7 @@ impl<P: Pair> MemberSeat<P> {
         ensures number { result ≡ self.now.number }
         // What is true of every member's seat.
         ensures numbered { 0 < self.now.number }
-        ensures legal { Legal P.start self.now.steps }
+        ensures legal { LegalSteps P.start self.now.steps }
     {
         self.number
     }
@@ -289,7 +289,7 @@ impl<P: Pair> MemberSeat<P> {
         ensures number { self.new.number ≡ self.old.number }
         ensures seen { Begins self.old.steps self.new.steps }
         ensures own { steps_by self.old.number self.new.steps ≡ steps_by self.old.number self.old.steps }
-        ensures legal { Legal P.start self.new.steps }
+        ensures legal { LegalSteps P.start self.new.steps }
         ensures length { result ≡ length self.new.steps }
     {
         let mut seat = mem::replace(&mut self.seat, Resting::blank()).into_seat();
@@ -318,7 +318,7 @@ impl<P: Pair> MemberSeat<P> {
         ensures seen { Begins self.old.steps self.new.steps }
         ensures told { Begins badge.old self.new.steps }
         ensures own { steps_by self.old.number self.new.steps ≡ steps_by self.old.number self.old.steps }
-        ensures legal { Legal P.start self.new.steps }
+        ensures legal { LegalSteps P.start self.new.steps }
         ensures badge { badge.new ≡ badge.old }
     {
         let mut other = mem::replace(&mut badge.seat, Resting::blank()).into_seat();

@@ -2,7 +2,7 @@
 
 ghost use Rattle.std.specs.Prelude.{◌≡◌, ◌-◌, ◌*◌, ◌<◌, ◌%◌, ◌^◌};
 ghost use Rattle.rv64_core.specs.Encoding.{u_word, j_word, i_word, s_word, b_word, r_word, shift_word};
-ghost use Rattle.guest_kit.specs.Registers.{number_of};
+ghost use Rattle.guest_kit.specs.Registers.{register_number};
 
 use rv64_core::{Condition, CsrOp, Instr, Operation, Register, Width, encode};
 
@@ -37,7 +37,7 @@ pub(crate) enum Reg {
 
 /// Its number, as an instruction holds it.
 fn register(reg: Reg) -> Register
-    ensures { result ≡ number_of reg }
+    ensures { result ≡ register_number reg }
 {
     Register::new(reg as u8).unwrap()
 }
@@ -45,7 +45,7 @@ fn register(reg: Reg) -> Register
 /// `lui`: `imm`, whose low 12 bits are 0, into `rd`.
 #[tactic(auto, unfolding(rv64_core::specs::Encoding::encoded))]
 pub(crate) fn lui(rd: Reg, imm: u64) -> u32
-    ensures { result ≡ u_word 0x37 (number_of rd) imm }
+    ensures { result ≡ u_word 0x37 (register_number rd) imm }
 {
     encode(Instr::Lui {
         rd: register(rd),
@@ -56,7 +56,7 @@ pub(crate) fn lui(rd: Reg, imm: u64) -> u32
 /// `auipc`: the address of the instruction, plus `imm`, whose low 12 bits are 0, into `rd`.
 #[tactic(auto, unfolding(rv64_core::specs::Encoding::encoded))]
 pub(crate) fn auipc(rd: Reg, imm: u64) -> u32
-    ensures { result ≡ u_word 0x17 (number_of rd) imm }
+    ensures { result ≡ u_word 0x17 (register_number rd) imm }
 {
     encode(Instr::Auipc {
         rd: register(rd),
@@ -67,7 +67,7 @@ pub(crate) fn auipc(rd: Reg, imm: u64) -> u32
 /// `addi`: `rs1 + imm` into `rd`.
 #[tactic(auto, unfolding(rv64_core::specs::Encoding::encoded))]
 pub(crate) fn addi(rd: Reg, rs1: Reg, imm: u64) -> u32
-    ensures { result ≡ i_word 0x13 (number_of rd) (number_of rs1) imm }
+    ensures { result ≡ i_word 0x13 (register_number rd) (register_number rs1) imm }
 {
     encode(Instr::OpImm {
         op: Operation::Add,
@@ -80,7 +80,7 @@ pub(crate) fn addi(rd: Reg, rs1: Reg, imm: u64) -> u32
 /// `lw`: the 4 bytes at `rs1 + offset`, sign extended, into `rd`.
 #[tactic(auto, unfolding(rv64_core::specs::Encoding::encoded))]
 pub(crate) fn lw(rd: Reg, offset: u64, rs1: Reg) -> u32
-    ensures { result ≡ i_word 0x2003 (number_of rd) (number_of rs1) offset }
+    ensures { result ≡ i_word 0x2003 (register_number rd) (register_number rs1) offset }
 {
     encode(Instr::Load {
         rd: register(rd),
@@ -94,7 +94,7 @@ pub(crate) fn lw(rd: Reg, offset: u64, rs1: Reg) -> u32
 /// `sw`: the low 4 bytes of `rs2` to `rs1 + offset`.
 #[tactic(auto, unfolding(rv64_core::specs::Encoding::encoded))]
 pub(crate) fn sw(rs2: Reg, offset: u64, rs1: Reg) -> u32
-    ensures { result ≡ s_word 0x2023 (number_of rs1) (number_of rs2) offset }
+    ensures { result ≡ s_word 0x2023 (register_number rs1) (register_number rs2) offset }
 {
     encode(Instr::Store {
         rs1: register(rs1),
@@ -107,7 +107,7 @@ pub(crate) fn sw(rs2: Reg, offset: u64, rs1: Reg) -> u32
 /// `jal`: a jump by `offset` from the instruction itself, with the address behind it in `rd`.
 #[tactic(auto, unfolding(rv64_core::specs::Encoding::encoded))]
 pub(crate) fn jal(rd: Reg, offset: u64) -> u32
-    ensures { result ≡ j_word 0x6f (number_of rd) offset }
+    ensures { result ≡ j_word 0x6f (register_number rd) offset }
 {
     encode(Instr::Jal {
         rd: register(rd),
@@ -118,7 +118,7 @@ pub(crate) fn jal(rd: Reg, offset: u64) -> u32
 /// `ld`: the 8 bytes at `rs1 + offset` into `rd`.
 #[tactic(auto, unfolding(rv64_core::specs::Encoding::encoded))]
 pub(crate) fn ld(rd: Reg, offset: u64, rs1: Reg) -> u32
-    ensures { result ≡ i_word 0x3003 (number_of rd) (number_of rs1) offset }
+    ensures { result ≡ i_word 0x3003 (register_number rd) (register_number rs1) offset }
 {
     encode(Instr::Load {
         rd: register(rd),
@@ -132,7 +132,7 @@ pub(crate) fn ld(rd: Reg, offset: u64, rs1: Reg) -> u32
 /// `sd`: the 8 bytes of `rs2` to `rs1 + offset`.
 #[tactic(auto, unfolding(rv64_core::specs::Encoding::encoded))]
 pub(crate) fn sd(rs2: Reg, offset: u64, rs1: Reg) -> u32
-    ensures { result ≡ s_word 0x3023 (number_of rs1) (number_of rs2) offset }
+    ensures { result ≡ s_word 0x3023 (register_number rs1) (register_number rs2) offset }
 {
     encode(Instr::Store {
         rs1: register(rs1),
@@ -145,7 +145,7 @@ pub(crate) fn sd(rs2: Reg, offset: u64, rs1: Reg) -> u32
 /// `andi`: the bits that `rs1` and `imm` share into `rd`.
 #[tactic(auto, unfolding(rv64_core::specs::Encoding::encoded))]
 pub(crate) fn andi(rd: Reg, rs1: Reg, imm: u64) -> u32
-    ensures { result ≡ i_word 0x7013 (number_of rd) (number_of rs1) imm }
+    ensures { result ≡ i_word 0x7013 (register_number rd) (register_number rs1) imm }
 {
     encode(Instr::OpImm {
         op: Operation::And,
@@ -158,7 +158,7 @@ pub(crate) fn andi(rd: Reg, rs1: Reg, imm: u64) -> u32
 /// `slli`: `rs1`, shifted left by `amount`, below 64, into `rd`.
 #[tactic(auto, unfolding(rv64_core::specs::Encoding::encoded))]
 pub(crate) fn slli(rd: Reg, rs1: Reg, amount: u64) -> u32
-    ensures { result ≡ shift_word 0x1013 (number_of rd) (number_of rs1) amount }
+    ensures { result ≡ shift_word 0x1013 (register_number rd) (register_number rs1) amount }
 {
     encode(Instr::OpImm {
         op: Operation::Sll,
@@ -171,7 +171,7 @@ pub(crate) fn slli(rd: Reg, rs1: Reg, amount: u64) -> u32
 /// `srli`: `rs1`, shifted right by `amount`, below 64, with zeros from the left, into `rd`.
 #[tactic(auto, unfolding(rv64_core::specs::Encoding::encoded))]
 pub(crate) fn srli(rd: Reg, rs1: Reg, amount: u64) -> u32
-    ensures { result ≡ shift_word 0x5013 (number_of rd) (number_of rs1) amount }
+    ensures { result ≡ shift_word 0x5013 (register_number rd) (register_number rs1) amount }
 {
     encode(Instr::OpImm {
         op: Operation::Srl,
@@ -184,7 +184,7 @@ pub(crate) fn srli(rd: Reg, rs1: Reg, amount: u64) -> u32
 /// `add`: `rs1 + rs2` into `rd`.
 #[tactic(auto, unfolding(rv64_core::specs::Encoding::encoded))]
 pub(crate) fn add(rd: Reg, rs1: Reg, rs2: Reg) -> u32
-    ensures { result ≡ r_word 0x33 (number_of rd) (number_of rs1) (number_of rs2) }
+    ensures { result ≡ r_word 0x33 (register_number rd) (register_number rs1) (register_number rs2) }
 {
     encode(Instr::Op {
         op: Operation::Add,
@@ -197,7 +197,7 @@ pub(crate) fn add(rd: Reg, rs1: Reg, rs2: Reg) -> u32
 /// `lhu`: the 2 bytes at `rs1 + offset`, with zeros from the left, into `rd`.
 #[tactic(auto, unfolding(rv64_core::specs::Encoding::encoded))]
 pub(crate) fn lhu(rd: Reg, offset: u64, rs1: Reg) -> u32
-    ensures { result ≡ i_word 0x5003 (number_of rd) (number_of rs1) offset }
+    ensures { result ≡ i_word 0x5003 (register_number rd) (register_number rs1) offset }
 {
     encode(Instr::Load {
         rd: register(rd),
@@ -211,7 +211,7 @@ pub(crate) fn lhu(rd: Reg, offset: u64, rs1: Reg) -> u32
 /// `lwu`: the 4 bytes at `rs1 + offset`, with zeros from the left, into `rd`.
 #[tactic(auto, unfolding(rv64_core::specs::Encoding::encoded))]
 pub(crate) fn lwu(rd: Reg, offset: u64, rs1: Reg) -> u32
-    ensures { result ≡ i_word 0x6003 (number_of rd) (number_of rs1) offset }
+    ensures { result ≡ i_word 0x6003 (register_number rd) (register_number rs1) offset }
 {
     encode(Instr::Load {
         rd: register(rd),
@@ -225,7 +225,7 @@ pub(crate) fn lwu(rd: Reg, offset: u64, rs1: Reg) -> u32
 /// `sh`: the low 2 bytes of `rs2` to `rs1 + offset`.
 #[tactic(auto, unfolding(rv64_core::specs::Encoding::encoded))]
 pub(crate) fn sh(rs2: Reg, offset: u64, rs1: Reg) -> u32
-    ensures { result ≡ s_word 0x1023 (number_of rs1) (number_of rs2) offset }
+    ensures { result ≡ s_word 0x1023 (register_number rs1) (register_number rs2) offset }
 {
     encode(Instr::Store {
         rs1: register(rs1),
@@ -238,7 +238,7 @@ pub(crate) fn sh(rs2: Reg, offset: u64, rs1: Reg) -> u32
 /// `beq`: a jump by `offset` from the instruction itself, where `rs1` and `rs2` hold the same.
 #[tactic(auto, unfolding(rv64_core::specs::Encoding::encoded))]
 pub(crate) fn beq(rs1: Reg, rs2: Reg, offset: u64) -> u32
-    ensures { result ≡ b_word 0x63 (number_of rs1) (number_of rs2) offset }
+    ensures { result ≡ b_word 0x63 (register_number rs1) (register_number rs2) offset }
 {
     encode(Instr::Branch {
         condition: Condition::Eq,
@@ -251,7 +251,7 @@ pub(crate) fn beq(rs1: Reg, rs2: Reg, offset: u64) -> u32
 /// `bne`: a jump by `offset` from the instruction itself, where `rs1` and `rs2` don't hold the same.
 #[tactic(auto, unfolding(rv64_core::specs::Encoding::encoded))]
 pub(crate) fn bne(rs1: Reg, rs2: Reg, offset: u64) -> u32
-    ensures { result ≡ b_word 0x1063 (number_of rs1) (number_of rs2) offset }
+    ensures { result ≡ b_word 0x1063 (register_number rs1) (register_number rs2) offset }
 {
     encode(Instr::Branch {
         condition: Condition::Ne,
@@ -284,7 +284,7 @@ pub(crate) fn back(words: u64) -> u64
 /// `csrrw`: `rs1` into a CSR, and what it held into `rd`.
 #[tactic(auto, unfolding(rv64_core::specs::Encoding::encoded))]
 pub(crate) fn csrrw(rd: Reg, csr: u16, rs1: Reg) -> u32
-    ensures { result ≡ i_word 0x1073 (number_of rd) (number_of rs1) csr }
+    ensures { result ≡ i_word 0x1073 (register_number rd) (register_number rs1) csr }
 {
     encode(Instr::Csr {
         op: CsrOp::Write,
@@ -297,7 +297,7 @@ pub(crate) fn csrrw(rd: Reg, csr: u16, rs1: Reg) -> u32
 /// `csrrs`: the bits of `rs1` are set in a CSR, and what it held goes into `rd`.
 #[tactic(auto, unfolding(rv64_core::specs::Encoding::encoded))]
 pub(crate) fn csrrs(rd: Reg, csr: u16, rs1: Reg) -> u32
-    ensures { result ≡ i_word 0x2073 (number_of rd) (number_of rs1) csr }
+    ensures { result ≡ i_word 0x2073 (register_number rd) (register_number rs1) csr }
 {
     encode(Instr::Csr {
         op: CsrOp::Set,
@@ -310,7 +310,7 @@ pub(crate) fn csrrs(rd: Reg, csr: u16, rs1: Reg) -> u32
 /// `csrrsi`: the bits of `bits`, of which there are 5, are set in a CSR, and what it held goes into `rd`.
 #[tactic(auto, unfolding(rv64_core::specs::Encoding::encoded))]
 pub(crate) fn csrrsi(rd: Reg, csr: u16, bits: u64) -> u32
-    ensures { result ≡ i_word 0x6073 (number_of rd) (bits % 2 ^ 5) csr }
+    ensures { result ≡ i_word 0x6073 (register_number rd) (bits % 2 ^ 5) csr }
 {
     encode(Instr::CsrImm {
         op: CsrOp::Set,

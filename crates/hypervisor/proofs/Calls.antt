@@ -10,7 +10,7 @@ use Rattle.pair_record.specs.declared.event.Refusal.TheVariants.{Full, BadFrame,
 use Rattle.pair_record.specs.declared.event.Refusal.TheVariants.{NoImage, Stale, Gap, NoMemory, CutNeeded, Exhausted, OldVersion}
 use Rattle.growing_history.specs.Entries.{own_entries, IsCall}
 use Rattle.growing_history.specs.Steps.{Added, Step, step, Begins, steps_by}
-use Rattle.growing_history.specs.LogState.{Legal, state_at, history_of, client_seat}
+use Rattle.growing_history.specs.LogState.{LegalSteps, state_at, history_of, client_seat}
 use Rattle.growing_history.specs.Views.{Member}
 use Rattle.pair_book.specs.Books.{BookState, inbox_at}
 use Rattle.pair_record.specs.Protocol.{first_refusal}
@@ -26,14 +26,14 @@ use Rattle.hypervisor.proofs.{Steps.makes-at, Whys.deliver-full}
 -- a client's call is a point of one history
 abbrev pub CallLaw : Type 0
 CallLaw = (h : HistoryState) (c : ℕ) (old log : List Step) (es : List Entry) → 1 ≤ c → Begins old log
-    → Legal h (log ++ step (client_seat c) (Added es) ∷ [])
+    → LegalSteps h (log ++ step (client_seat c) (Added es) ∷ [])
     → steps_by (client_seat c) (log ++ step (client_seat c) (Added es) ∷ []) ≡ steps_by (client_seat c) old ++ step (client_seat c)
     (Added es) ∷ []
     → IsCall h c old (log ++ step (client_seat c) (Added es) ∷ []) es
 
 -- and what it sees without a call leaves its own entries
 abbrev pub LookLaw : Type 0
-LookLaw = (h : HistoryState) (c : ℕ) (old now : List Step) → 1 ≤ c → Begins old now → Legal h now
+LookLaw = (h : HistoryState) (c : ℕ) (old now : List Step) → 1 ≤ c → Begins old now → LegalSteps h now
     → steps_by (client_seat c) now ≡ steps_by (client_seat c) old
     → own_entries c (history_of h now) ≡ own_entries c (history_of h old)
 
@@ -49,11 +49,11 @@ called start c old new e low m law =
     let is = m.seen.1 in
     subst (λ (ys : List Step). IsCall start c old ys (e ∷ [])) (sym is)
     (law start c old (old ++ m.seen.0) (e ∷ []) low (m.seen.0, refl)
-    (subst (λ (ys : List Step). Legal start ys) is m.legal)
+    (subst (λ (ys : List Step). LegalSteps start ys) is m.legal)
     (ap (λ (ys : List Step). steps_by (client_seat c) ys) (sym is) ∙ m.own))
 
 module _ (start : HistoryState) (b b' : BookState) (seat seat' : Member) (is : IsClientSeat start seat.number)
-    (legal : Legal start seat'.steps) (law : CallLaw) where
+    (legal : LegalSteps start seat'.steps) (law : CallLaw) where
   told-at : (e : Entry) → Makes (Added (e ∷ [])) b b' seat seat'
       → (calls : Calls start e (client_state seat) (client_state seat')) × (seat.steps ++ calls.step.seen.0 ≡ b.steps)
   told-at e m =
@@ -134,7 +134,7 @@ module _ (start : HistoryState) (b b' : BookState) (seat seat' : Member) (is : I
 
 pub learned : (start : HistoryState) (seat seat' : Member) (told : List Step) → IsClientSeat start seat.number
     → seat'.number ≡ seat.number → Begins seat.steps seat'.steps → Begins told seat'.steps
-    → steps_by seat.number seat'.steps ≡ steps_by seat.number seat.steps → Legal start seat'.steps → LookLaw
+    → steps_by seat.number seat'.steps ≡ steps_by seat.number seat.steps → LegalSteps start seat'.steps → LookLaw
     → Learns start told (client_state seat) (client_state seat')
 learned start seat seat' told is number seen heard own legal law =
     let c = client_of seat.number in
@@ -150,7 +150,7 @@ learned start seat seat' told is number seen heard own legal law =
     }
 
 pub seen-all : (start : HistoryState) (b : BookState) (seat seat' : Member) → IsClientSeat start seat.number → Shows b seat seat'
-    → Legal start b.steps → LookLaw → SeesAll start b.steps (client_state seat) (client_state seat')
+    → LegalSteps start b.steps → LookLaw → SeesAll start b.steps (client_state seat) (client_state seat')
 seen-all start b seat seat' is shows legal law =
     let c = client_of seat.number in
     let kept : steps_by (client_seat c) b.steps ≡ steps_by (client_seat c) seat.steps =

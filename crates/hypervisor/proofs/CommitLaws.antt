@@ -7,9 +7,9 @@ use Rattle.backup_image.specs.Images.{ImageState, applied}
 use Rattle.backup_image.specs.Kept as images
 use Rattle.backup_image.specs.Limits.{number_limit}
 use Rattle.checkpoint_stream.specs.Readings.{Reading}
-use Rattle.epoch_snapshot.specs.Checkpoints.{Change}
+use Rattle.epoch_snapshot.specs.Checkpoints.{Change, is_old_delta}
 use Rattle.guest_machine.specs.declared.shapes.Shape.{Shape}
-use Rattle.growing_history.specs.LogState.{Legal}
+use Rattle.growing_history.specs.LogState.{LegalSteps}
 use Rattle.growing_history.specs.Views.{Member}
 use Rattle.pair_history.specs.HistoryState.{HistoryState}
 use Rattle.pair_record.specs.declared.event.Refusal.{Refusal}
@@ -18,10 +18,10 @@ use Rattle.pair_record.specs.Protocol.{Row, first_refusal}
 use Rattle.pair_book.specs.Books.{BookState}
 use Rattle.pair_book.specs.Calls.{IsWhy, is_word_full}
 use Rattle.pair_book.specs.declared.failures.Ack.{Ack}
-use Rattle.pair_book.specs.Commits.{commit_of, may_commit, is_old_delta, is_next, is_earlier, commit_why, AfterAgainOrNext, Acknowledges}
-use Rattle.pair_book.specs.Commits.{WasRead, StandsBy, StandsAgain}
+use Rattle.pair_book.specs.Commits.{commit_of, may_commit, is_next, is_earlier, commit_why, AfterAgainOrNext, Acknowledges}
+use Rattle.pair_book.specs.Commits.{WasRead, StandsAfterNext, StandsAfterAgain}
 use Rattle.pair_book.specs.Made.{IsShape}
-use Rattle.hypervisor.specs.Backups.{backup_state, new_backup, StandsWith, IsBackup}
+use Rattle.hypervisor.specs.Backups.{backup_state, new_backup, ImageStands, IsBackup}
 use Rattle.hypervisor.specs.Commits.{AtBook, image_after, commit_refusals, MayRefuseCommit, or_unnumbered, why_not}
 use Rattle.hypervisor.specs.Refusals.{MayRefuseUnless}
 use Rattle.hypervisor.proofs.ReadsOnLaws.{nothing-came}
@@ -131,13 +131,13 @@ is-numbered true e = refl
 is-numbered false e = absurd (cc)
 
 module _ (start : HistoryState) (b b' : BookState) (seat seat' : Member) (c : Change) (ack : Ack) (i : ImageState)
-    (free : why_not start b seat.number i (Some c) ≡ None) (number : seat'.number ≡ seat.number) (legal : Legal start b'.steps)
-    (read : WasRead c) (shape : IsShape start i.shape) (same : c.shape ≡ i.shape) (stands : StandsWith start seat i) where
+    (free : why_not start b seat.number i (Some c) ≡ None) (number : seat'.number ≡ seat.number) (legal : LegalSteps start b'.steps)
+    (read : WasRead c) (shape : IsShape start i.shape) (same : c.shape ≡ i.shape) (stands : ImageStands start seat i) where
   abbrev numbered : Bool
   numbered = nat_lt (images.sent_with c i.sent) number_limit
 
   by-test : (t : Bool) → is_earlier b c ≡ t → AfterAgainOrNext t c ack b b' seat seat' → Acknowledges t c ack
-      → (t ≡ false → StandsBy start c ack seat seat') → (t ≡ true → StandsAgain start ack seat seat')
+      → (t ≡ false → StandsAfterNext start c ack seat seat') → (t ≡ true → StandsAfterAgain start ack seat seat')
       → AtBook (not t) start c ack i seat seat'
   by-test true is after acknowledged by again =
       let both = free-of (commit_why start b seat.number (Some c)) (not (is_earlier b c) && not numbered) free in
@@ -149,7 +149,7 @@ module _ (start : HistoryState) (b b' : BookState) (seat seat' : Member) (c : Ch
         number = number;
         looks =
             looks-at start b seat seat' after.2
-            (subst (λ (m : Member). Legal start m.steps) (sym after.2.sees) (subst (λ (x : BookState). Legal start x.steps) after.1 legal));
+            (subst (λ (m : Member). LegalSteps start m.steps) (sym after.2.sees) (subst (λ (x : BookState). LegalSteps start x.steps) after.1 legal));
         stands = stood.1;
       }
   by-test false is after acknowledged by again =
@@ -160,7 +160,7 @@ module _ (start : HistoryState) (b b' : BookState) (seat seat' : Member) (c : Ch
         number = number;
         step =
             makes-step start (commit_of c) b b' seat seat' after.2
-            (subst (λ (m : Member). Legal start m.steps) (sym after.2.sees) legal);
+            (subst (λ (m : Member). LegalSteps start m.steps) (sym after.2.sees) legal);
         new =
             stage-new i c (is_young start b seat.number c both.0) stood.0
             (is-numbered numbered (ap (λ (t : Bool). not t && not numbered) (sym is) ∙ both.1));
@@ -168,24 +168,24 @@ module _ (start : HistoryState) (b b' : BookState) (seat seat' : Member) (c : Ch
       }
 
   pub at-book : AfterAgainOrNext (is_earlier b c) c ack b b' seat seat' → Acknowledges (is_earlier b c) c ack
-      → (is_earlier b c ≡ false → StandsBy start c ack seat seat') → (is_earlier b c ≡ true → StandsAgain start ack seat seat')
+      → (is_earlier b c ≡ false → StandsAfterNext start c ack seat seat') → (is_earlier b c ≡ true → StandsAfterAgain start ack seat seat')
       → AtBook (not (is_earlier b c)) start c ack i seat seat'
   at-book after acknowledged by again = by-test (is_earlier b c) refl after acknowledged by again
 
 pub stands-after : (start : HistoryState) (c : Change) (ack : Ack) (i : ImageState) (seat seat' : Member) (is_next : Bool)
-    → AtBook is_next start c ack i seat seat' → StandsWith start seat' (image_after is_next i (Some c))
+    → AtBook is_next start c ack i seat seat' → ImageStands start seat' (image_after is_next i (Some c))
 stands-after start c ack i seat seat' true at = at.stands
 stands-after start c ack i seat seat' false at = at.stands
 
 pub stands-applied-then : (start : HistoryState) (i : ImageState) (seat : Member) (is_next : Bool) (read : Option Change) (c : Change)
-    → is_next ≡ true → read ≡ Some c → StandsWith start seat (image_after is_next i read) → StandsWith start seat (applied i (Some c))
+    → is_next ≡ true → read ≡ Some c → ImageStands start seat (image_after is_next i read) → ImageStands start seat (applied i (Some c))
 stands-applied-then start i seat is_next read c next is stands =
-    subst (λ (x : Bool × Option Change). StandsWith start seat (image_after x.0 i x.1)) (λ k. (next k, is k)) stands
+    subst (λ (x : Bool × Option Change). ImageStands start seat (image_after x.0 i x.1)) (λ k. (next k, is k)) stands
 
 -- IT IS A BACKUP, and stays one
 
 pub new_is_backup : (start : HistoryState) (image : ImageState) (seat : Member) → image.staged ≡ None → IsShape start image.shape
-    → StandsWith start seat image → IsBackup start (new_backup image seat)
+    → ImageStands start seat image → IsBackup start (new_backup image seat)
 new_is_backup start image seat unstaged shape stands = record {
   unstaged = unstaged;
   unfinished = refl;
@@ -212,7 +212,7 @@ module _ (start : HistoryState) (image : ImageState) (reading : Reading) (read :
   }
 
   pub taken-in : (c : Change) (now : ImageState) (seat' : Member) → now ≡ applied image (Some c)
-      → StandsWith start seat' (applied image (Some c)) → IsBackup start (backup_state now reading None seat')
+      → ImageStands start seat' (applied image (Some c)) → IsBackup start (backup_state now reading None seat')
   taken-in c now seat' is stands =
       subst (λ (i : ImageState). IsBackup start (backup_state i reading None seat')) (sym is)
       (record {

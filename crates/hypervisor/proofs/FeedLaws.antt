@@ -1,7 +1,7 @@
 -- What bytes make of a backup, and that it stays one.
 use Rattle.std.proofs.Common.{◌≡◌, ℕ, List, true, false, Bool, refl, sym, ap, ◌∙◌, subst}
 use Rattle.std.specs.Prelude.{All, ◌<◌, IfSome, IfNone, Option, None, Some, Ok, Err}
-use Rattle.checkpoint_stream.specs.Answers.{Answers}
+use Rattle.checkpoint_stream.specs.Answers.{FeedAnswers}
 use Rattle.checkpoint_stream.specs.declared.errors.StreamError.{StreamError}
 use Rattle.checkpoint_stream.specs.declared.errors.StreamError.TheVariants.{Malformed, NoMemory}
 use Rattle.checkpoint_stream.specs.declared.place.Place.{Place}
@@ -35,7 +35,7 @@ stands-apart b r now None unread some none =
     (λ i. record b { reading = none.1 i; read = sym unread i }) ∙ sym (ap (λ (t : Bool). with_reading t b r) none.0)
 
 pub feeds_ok : (b : BackupState) (bytes : List ℕ) (count : ℕ) (r now : Reading) (read : Option Change) → b.read ≡ None
-    → Answers b.reading bytes (Ok count) r → GivesWhole r read now → GivesNone r read now
+    → FeedAnswers b.reading bytes (Ok count) r → GivesWhole r read now → GivesNone r read now
     → Feeds b bytes (Ok count) (record b { reading = now; read = read })
 feeds_ok b bytes count r now read unread a some none = (
   stands-apart b r now read unread some none ∙ ap (after_reading b) a.0,
@@ -43,7 +43,7 @@ feeds_ok b bytes count r now read unread a some none = (
   ap (λ (x : Reading). failure_at x.place) (sym a.0) ∙ a.2,
 )
 
-pub feeds_err : (b : BackupState) (bytes : List ℕ) (e : StreamError) (r : Reading) → Answers b.reading bytes (Err e) r
+pub feeds_err : (b : BackupState) (bytes : List ℕ) (e : StreamError) (r : Reading) → FeedAnswers b.reading bytes (Err e) r
     → Feeds b bytes (Err e) (record b { reading = r })
 feeds_err b bytes (Malformed offset) r a =
     (ap (λ (x : Reading). record b { reading = x }) a.0, ap (λ (x : Reading). failure_at x.place) (sym a.0) ∙ a.1)
@@ -64,7 +64,7 @@ one-of c d e = cc
 
 module _ (start : HistoryState) (image : ImageState) (seat : Member) (bytes : List ℕ) (small : All (λ b. b < 256) bytes) where
   pub stays_fed : (reading r now : Reading) (old read : Option Change) (count : ℕ) → TextLaw
-      → IsBackup start (backup_state image reading old seat) → Answers reading bytes (Ok count) r → GivesWhole r read now
+      → IsBackup start (backup_state image reading old seat) → FeedAnswers reading bytes (Ok count) r → GivesWhole r read now
       → GivesNone r read now → IsBackup start (backup_state image now read seat)
   stays_fed reading r now old (Some c) count law h a some none = record {
     unstaged = h.unstaged;
@@ -92,7 +92,7 @@ module _ (start : HistoryState) (image : ImageState) (seat : Member) (bytes : Li
   }
 
   pub stays_failed : (reading r : Reading) (read : Option Change) (e : StreamError) → IsBackup start (backup_state image reading read seat)
-      → Answers reading bytes (Err e) r → IsBackup start (backup_state image r read seat)
+      → FeedAnswers reading bytes (Err e) r → IsBackup start (backup_state image r read seat)
   stays_failed reading r read (Malformed offset) h a = record {
     unstaged = h.unstaged;
     unfinished =

@@ -5,7 +5,7 @@ use Rattle.std.proofs.lemmas.Bool.{eq-eqb, le-leb}
 use Rattle.std.proofs.lemmas.List.{take_all}
 use Rattle.std.specs.Prelude.{All, IfSome, is_some, ◌&&◌}
 use Rattle.backup_image.specs.Images.{ImageState}
-use Rattle.checkpoint_stream.specs.Answers.{Answers}
+use Rattle.checkpoint_stream.specs.Answers.{FeedAnswers}
 use Rattle.checkpoint_stream.specs.ReadBack.{ReadsBack}
 use Rattle.checkpoint_stream.specs.Readings.{Reading, begun, fed, taken, is_whole, failure_at}
 use Rattle.checkpoint_stream.specs.Sound.{change_in}
@@ -17,7 +17,7 @@ use Rattle.epoch_snapshot.specs.Checkpoints.{Change}
 use Rattle.guest_machine.specs.Guest.{Guest}
 use Rattle.guest_machine.specs.declared.shapes.Shape.{Shape}
 use Rattle.growing_history.specs.Steps.{Step, Begins, steps_by}
-use Rattle.growing_history.specs.LogState.{Legal}
+use Rattle.growing_history.specs.LogState.{LegalSteps}
 use Rattle.growing_history.specs.Views.{Member}
 use Rattle.pair_book.specs.declared.failures.Ack.{Ack}
 use Rattle.pair_book.specs.Commits.{WasRead}
@@ -26,7 +26,7 @@ use Rattle.pair_book.specs.Standing.{Stands}
 use Rattle.pair_history.specs.Entries.{Frame}
 use Rattle.pair_history.specs.HistoryState.{HistoryState}
 use Rattle.backup_image.specs.Kept.{first_kept}
-use Rattle.hypervisor.specs.Backups.{BackupState, backup_state, IsBackup, StandsWith, last_of, kept_of}
+use Rattle.hypervisor.specs.Backups.{BackupState, backup_state, IsBackup, ImageStands, last_of, kept_of}
 use Rattle.hypervisor.specs.FirstBackups.{IsReadOf, IsOfShape, ReadsWhole, AnswersPacket, AfterPacket, IsReadOrNoMemory}
 use Rattle.hypervisor.specs.FirstBackups.{text_read, is_text_for, is_all_of}
 use Rattle.hypervisor.specs.Seats.{Looks}
@@ -36,7 +36,7 @@ use Rattle.hypervisor.proofs.ReadsOnLaws.{TextLaw, nothing-came, more-came, whol
 -- a backup stands on where its seat looks: the law of pair_book
 abbrev pub StandsOn : Type 0
 StandsOn = (start : HistoryState) (seat : Member) (now : List Step) (image : Guest) (last : Option Ack) (sent first : ℕ)
-    (kept : List (List Frame)) → Begins seat.steps now → Legal start now → steps_by seat.number now ≡ steps_by seat.number seat.steps
+    (kept : List (List Frame)) → Begins seat.steps now → LegalSteps start now → steps_by seat.number now ≡ steps_by seat.number seat.steps
     → Stands start seat image last sent first kept → Stands start (record { number = seat.number; steps = now }) image last sent first kept
 
 module _ (start : HistoryState) (image : ImageState) (reading : Reading) (read : Option Change) (seat : Member)
@@ -44,7 +44,7 @@ module _ (start : HistoryState) (image : ImageState) (reading : Reading) (read :
   pub seat-on : (seat' : Member) → StandsOn → seat'.number ≡ seat.number → Looks start seat.number seat.steps seat'.steps
       → IsBackup start (backup_state image reading read seat')
   seat-on seat' law number l =
-      let stands : StandsWith start (record { number = seat.number; steps = seat'.steps }) image =
+      let stands : ImageStands start (record { number = seat.number; steps = seat'.steps }) image =
       law start seat seat'.steps image.guest (last_of image) image.sent (first_kept (kept_of image)) image.kept l.seen l.legal l.own h.stands in
       record {
         unstaged = h.unstaged;
@@ -55,7 +55,7 @@ module _ (start : HistoryState) (image : ImageState) (reading : Reading) (read :
         was_read = h.was_read;
         pair_shape = h.pair_shape;
         stands =
-            subst (λ (s : Member). StandsWith start s image) (λ k. record { number = sym number k; steps = seat'.steps }) stands;
+            subst (λ (s : Member). ImageStands start s image) (λ k. record { number = sym number k; steps = seat'.steps }) stands;
       }
 
   -- it has a checkpoint of its shape in the place of what was read
@@ -85,11 +85,11 @@ module _ (shape : Shape) (p : PacketState) (began r : Reading) (bytes : List ℕ
   is-read : {r' : Reading} → r' ≡ fed began bytes → r' ≡ text_read shape p
   is-read e = e ∙ came
 
-  pub none-read : (why : StreamError) → Answers began bytes (Err why) r → ReadsWhole shape p (Err why)
+  pub none-read : (why : StreamError) → FeedAnswers began bytes (Err why) r → ReadsWhole shape p (Err why)
   none-read (Malformed offset) a = ap (λ (x : Reading). failure_at x.place) (sym (is-read a.0)) ∙ a.1
   none-read (NoMemory wanted) a = tt
 
-  module _ (count : ℕ) (a : Answers began bytes (Ok count) r) where
+  module _ (count : ℕ) (a : FeedAnswers began bytes (Ok count) r) where
     kept : failure_at (text_read shape p).place ≡ None
     kept = ap (λ (x : Reading). failure_at x.place) (sym (is-read a.0)) ∙ a.2
 

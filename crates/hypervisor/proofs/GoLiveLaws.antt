@@ -9,7 +9,7 @@ use Rattle.failover.specs.declared.mode.Mode.{Mode}
 use Rattle.failover.specs.declared.mode.Mode.TheVariants as modes
 use Rattle.backup_image.specs.Images.{ImageState}
 use Rattle.frame_ports.specs.Limits.{number_limit}
-use Rattle.growing_history.specs.LogState.{LogState, Legal, state_at, sealed_state, after}
+use Rattle.growing_history.specs.LogState.{LogState, LegalSteps, state_at, sealed_state, after_step}
 use Rattle.growing_history.specs.Steps.{Step, WentLive, step}
 use Rattle.growing_history.specs.Views.{Member}
 use Rattle.pair_history.specs.Entries.{Frame}
@@ -24,7 +24,7 @@ use Rattle.pair_book.specs.Books.{BookState}
 use Rattle.pair_book.specs.Calls.{IsWhy, is_word_full}
 use Rattle.pair_book.specs.Failures.{first_of}
 use Rattle.pair_book.specs.GoingLive.{GoesLive, BeginsWithImage, is_backup, go_live_why}
-use Rattle.hypervisor.specs.Backups.{last_of, StandsWith, kept_of}
+use Rattle.hypervisor.specs.Backups.{last_of, ImageStands, kept_of}
 use Rattle.hypervisor.specs.GoingLive.{GoesLiveWith, live_refusals}
 use Rattle.backup_image.specs.Kept.{first_kept}
 use Rattle.hypervisor.proofs.{StandLaws.some-standing, Whys.{first, later}}
@@ -75,15 +75,15 @@ go-live-why start b number at kept why e =
 
 -- what a step makes of the state
 abbrev pub StateLaw : Type 0
-StateLaw = (h : HistoryState) (xs : List Step) (x : Step) → state_at h (xs ++ x ∷ []) ≡ after (state_at h xs) x.what
+StateLaw = (h : HistoryState) (xs : List Step) (x : Step) → state_at h (xs ++ x ∷ []) ≡ after_step (state_at h xs) x.what
 
-nothing-sealed : (s t : LogState) (r : ℕ) → t ≡ after s (WentLive r) → (sealed_state t).guest ≡ t.history.guest
+nothing-sealed : (s t : LogState) (r : ℕ) → t ≡ after_step s (WentLive r) → (sealed_state t).guest ≡ t.history.guest
 nothing-sealed s t r is = subst (λ (u : LogState). (sealed_state u).guest ≡ u.history.guest) (sym is) refl
 
 module _ (start : HistoryState) (b b' : BookState) (seat seat' runner : Member) (i : ImageState) (at : ℕ) (kept : List (List Frame))
-    (goes : GoesLive b b' seat seat') (is : runner ≡ record { number = b'.enrolled; steps = b'.steps }) (legal : Legal start b'.steps)
+    (goes : GoesLive b b' seat seat') (is : runner ≡ record { number = b'.enrolled; steps = b'.steps }) (legal : LegalSteps start b'.steps)
     (law : StateLaw) (begins : BeginsWithImage start seat runner at kept) (first-is : at ≡ first_kept (kept_of i)) (kept-is : kept ≡ i.kept)
-    (stands : StandsWith start seat i) where
+    (stands : ImageStands start seat i) where
   number : runner.number ≡ b.enrolled + 1
   number = ap (λ (m : Member). m.number) is ∙ goes.enrolled
 
@@ -93,7 +93,7 @@ module _ (start : HistoryState) (b b' : BookState) (seat seat' runner : Member) 
       ∙ goes.steps
       ∙ ap (λ (n : ℕ). b.steps ++ step 0 (WentLive n) ∷ []) (sym number)
 
-  there : state_at start runner.steps ≡ after (state_at start b.steps) (WentLive runner.number)
+  there : state_at start runner.steps ≡ after_step (state_at start b.steps) (WentLive runner.number)
   there = ap (state_at start) steps ∙ law start b.steps (step 0 (WentLive runner.number))
 
   begun : BeginsWithImage start seat runner (first_kept (kept_of i)) i.kept
@@ -104,7 +104,7 @@ module _ (start : HistoryState) (b b' : BookState) (seat seat' runner : Member) 
       let has = begun i.guest (last_of i) i.sent stands in
       record {
         some = some-standing i.stands_at has.0;
-        step = record { legal = subst (λ (m : Member). Legal start m.steps) (sym is) legal; last = (b.steps, steps) };
+        step = record { legal = subst (λ (m : Member). LegalSteps start m.steps) (sym is) legal; last = (b.steps, steps) };
         saw = (
           goes.saw.0 ++ step 0 (WentLive runner.number) ∷ [],
           steps

@@ -5,7 +5,7 @@ use Rattle.std.proofs.lemmas.List.{get_or-set_other, get_or-set_same, length-set
 use Rattle.pair_history.specs.Entries.{Entry}
 use Rattle.pair_history.specs.HistoryState.{HistoryState}
 use Rattle.growing_history.specs.Steps.{Step}
-use Rattle.growing_history.specs.LogState.{Epoch, Legal, state_at, history_of}
+use Rattle.growing_history.specs.LogState.{Epoch, LegalSteps, state_at, history_of}
 use Rattle.pair_book.specs.Books.{BookState}
 use Rattle.hypervisor.specs.Clients.{ClientState}
 use Rattle.hypervisor.specs.Looking.{SeesAll, SeeAll, HasFound, found_at}
@@ -48,7 +48,7 @@ all-see start all old new some many seen =
     record { count = seen.count; each = λ i c low. seen.first i c low (omega (arith, low, many)) }
 
 -- what the book says of itself is what was found
-pub has-found : (start : HistoryState) (b : BookState) → Legal start b.steps → AreOfOneGuest start b.steps
+pub has-found : (start : HistoryState) (b : BookState) → LegalSteps start b.steps → AreOfOneGuest start b.steps
     → ((state_at start b.steps).marked ≡ 0 → b.protocol.journal.history ≡ history_of start b.steps)
     → b.protocol.generation ≡ (state_at start b.steps).generation → b.protocol.window.to_cut ≡ (state_at start b.steps).next
     → b.protocol.journal.sealed ≡ map (λ (e : Epoch). e.entries) (state_at start b.steps).sealed

@@ -9,10 +9,10 @@ use Rattle.pair_history.specs.HistoryState.{HistoryState}
 use Rattle.pair_record.specs.declared.event.Refusal.{Refusal}
 use Rattle.pair_record.specs.Protocol.{first_refusal, lost_in, lost_out}
 use Rattle.growing_history.specs.Steps.{Added, Step}
-use Rattle.growing_history.specs.LogState.{Legal, line_seat, state_at}
+use Rattle.growing_history.specs.LogState.{LegalSteps, line_seat, state_at}
 use Rattle.growing_history.specs.Views.{Member}
-use Rattle.pair_book.specs.declared.losses.Loss.{Loss}
-use Rattle.pair_book.specs.declared.losses.Loss.TheVariants.{Dropped, Empty}
+use Rattle.pair_book.specs.declared.losses.Lost.{Lost}
+use Rattle.pair_book.specs.declared.losses.Lost.TheVariants.{Dropped, Empty}
 use Rattle.pair_book.specs.Books.{BookState, inbox_at, box_at}
 use Rattle.pair_book.specs.Calls.{Makes, Shows, IsAsBefore}
 use Rattle.pair_book.specs.Losses.{AfterLoss, loss_rows}
@@ -42,7 +42,7 @@ abbrev pub AreBoxes : HistoryState → BookState → Type 0
 AreBoxes start b = (state_at start b.steps).marked ≡ 0 → b.ports.boxes ≡ (state_at start b.steps).history.boxes
 
 module _ (start : HistoryState) (b b' : BookState) (seat seat' : Member) (line : seat.number ≡ line_seat)
-    (legal : Legal start seat'.steps) (after : PortsState) where
+    (legal : LegalSteps start seat'.steps) (after : PortsState) where
   dropped : (e e' : Entry) → e' ≡ e → Makes (Added (e' ∷ [])) b b' seat seat'
       → (drops : Drops start e seat.steps seat'.steps) × (seat.steps ++ drops.seen.0 ≡ b.steps)
   dropped e e' is m =
@@ -54,7 +54,7 @@ module _ (start : HistoryState) (b b' : BookState) (seat seat' : Member) (line :
   looked m =
       subst (λ (n : ℕ). Looks start n seat.steps seat'.steps) line (looks-at start b seat seat' m legal)
 
-  pub lost-in : (c place : ℕ) (r : Result Loss Refusal)
+  pub lost-in : (c place : ℕ) (r : Result Lost Refusal)
       → ((d : ℕ) → 1 ≤ d → d ≤ length b.ports.boxes → IsInbox start b d)
       → OnOk r (first_refusal (loss_rows b c (lost_in (ports.inbox_of b.ports c) place)) ≡ None)
       → IfOk r (λ loss. AfterLoss (lost_in (ports.inbox_of b.ports c) place) after loss b b' seat seat')
@@ -81,7 +81,7 @@ module _ (start : HistoryState) (b b' : BookState) (seat seat' : Member) (line :
       )
   lost-in c place (Err why) law free h = tt
 
-  pub lost-out : (c place : ℕ) (r : Result Loss Refusal) → AreBoxes start b
+  pub lost-out : (c place : ℕ) (r : Result Lost Refusal) → AreBoxes start b
       → IfOk r (λ loss. AfterLoss (lost_out c (ports.box_of b.ports c) place) after loss b b' seat seat')
       → IfOk r (λ loss. AfterLossOut start c place loss seat.steps seat'.steps)
   lost-out c place (Ok Dropped) boxes h =
@@ -104,7 +104,7 @@ module _ (start : HistoryState) (b b' : BookState) (seat seat' : Member) (line :
   )
   lost-out c place (Err why) boxes h = tt
 
-pub not-lost : (b b' : BookState) (seat seat' : Member) (r : Result Loss Refusal) → IfErr r (λ _. IsAsBefore b b' seat seat')
+pub not-lost : (b b' : BookState) (seat seat' : Member) (r : Result Lost Refusal) → IfErr r (λ _. IsAsBefore b b' seat seat')
     → IfErr r (λ _. seat' ≡ seat)
 not-lost b b' seat seat' (Ok l) h = tt
 not-lost b b' seat seat' (Err why) h = h.1

@@ -7,7 +7,7 @@ use Rattle.pair_history.specs.HistoryState.{HistoryState}
 use Rattle.pair_record.specs.declared.event.Refusal.{Refusal}
 use Rattle.pair_record.specs.declared.event.Refusal.TheVariants.{NoClient, Exhausted}
 use Rattle.pair_record.specs.Protocol.{Row, first_refusal, exhausts, is_among}
-use Rattle.pair_book.specs.declared.losses.Loss.{Loss}
+use Rattle.pair_book.specs.declared.losses.Lost.{Lost}
 use Rattle.pair_book.specs.Books.{BookState}
 use Rattle.pair_book.specs.Calls.{is_word_full, entry_rows}
 use Rattle.pair_book.specs.Losses.{loss_rows}
@@ -34,7 +34,7 @@ by-entry b c None why is = of-none (not (is_among c (length b.ports.boxes))) why
 by-entry b c (Some e) why is =
     of-some (not (is_among c (length b.ports.boxes))) (exhausts b.protocol 1) (is_word_full b) e why is
 
-pub loss-why : (start : HistoryState) (b : BookState) (c : ℕ) (entry : Option Entry) (r : Result Loss Refusal)
+pub loss-why : (start : HistoryState) (b : BookState) (c : ℕ) (entry : Option Entry) (r : Result Lost Refusal)
     → length b.ports.boxes ≡ length start.boxes → IfErr r (IsWhyLoss entry (first_refusal (loss_rows b c entry)))
     → IfErr r (MayRefuseLoss start c)
 loss-why start b c entry (Ok l) count is = tt

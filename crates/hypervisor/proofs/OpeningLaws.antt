@@ -10,12 +10,12 @@ use Rattle.growing_history.specs.Views.{Member}
 use Rattle.pair_book.specs.Books.{BookState, start_book}
 use Rattle.pair_book.specs.Made.{IsShape}
 use Rattle.pair_book.specs.Opening.{IsBoot, Unnamed}
-use Rattle.pair_book.specs.Settled.{Runs, just_settled}
+use Rattle.pair_book.specs.Settled.{Runs, settled_runner}
 use Rattle.pair_book.specs.Standing.{Stands, first_ack}
 use Rattle.pair_history.specs.HistoryState.{HistoryState, start_state}
 use Rattle.pair_history.specs.Reached.{IsReached}
 use Rattle.pair_record.specs.declared.event.Refusal.TheVariants.{Exhausted}
-use Rattle.hypervisor.specs.Backups.{StandsWith}
+use Rattle.hypervisor.specs.Backups.{ImageStands}
 use Rattle.hypervisor.specs.Opening.{start_with, first_image, unseen, IsUnnamed, IsStarted}
 use Rattle.hypervisor.specs.Refusals.{protect_refusals}
 use Rattle.hypervisor.specs.Runners.{IsSized}
@@ -27,11 +27,11 @@ NewLaw = (start : HistoryState) (steps : List Step) (b : ℕ) (image : Guest)
     → Stands start (record { number = b; steps = steps ++ step 0 (Protected b) ∷ [] }) image None 0 1 []
 
 pub new-stands-with : (start : HistoryState) (seat : Member) (shape : Shape) (image : ImageState) → NewLaw → image ≡ empty_image shape
-    → SeesLast start (Protected seat.number) seat.steps → StandsWith start seat image
+    → SeesLast start (Protected seat.number) seat.steps → ImageStands start seat image
 new-stands-with start seat shape image law is sees =
     let seen : seat ≡ record { number = seat.number; steps = sees.last.0 ++ step 0 (Protected seat.number) ∷ [] } =
     λ i. record { number = seat.number; steps = sees.last.1 i } in
-    subst (λ (x : Member × ImageState). StandsWith start x.0 x.1) (λ i. (sym seen i, sym is i))
+    subst (λ (x : Member × ImageState). ImageStands start x.0 x.1) (λ i. (sym seen i, sym is i))
     (law start sees.last.0 seat.number (empty_image shape).guest)
 
 pub may-exhaust : Contains protect_refusals Exhausted
@@ -44,12 +44,12 @@ abbrev pub FirstBackupLaw : Type 0
 FirstBackupLaw = (start : HistoryState) → Stands start (unseen first_backup) start.guest (Some first_ack) 0 1 []
 
 abbrev pub FirstRunnerLaw : Type 0
-FirstRunnerLaw = (start : HistoryState) → Runs start (unseen first_runner) (just_settled start.guest [])
+FirstRunnerLaw = (start : HistoryState) → Runs start (unseen first_runner) (settled_runner start.guest [])
 
 pub first-runs : (start : HistoryState) (machine : State) (seat : Member) → FirstRunnerLaw → seat ≡ unseen first_runner
-    → machine.guest ≡ start.guest → Runs start seat (just_settled machine.guest [])
+    → machine.guest ≡ start.guest → Runs start seat (settled_runner machine.guest [])
 first-runs start machine seat law is guest =
-    subst (λ (x : Member × Guest). Runs start x.0 (just_settled x.1 [])) (λ i. (sym is i, sym guest i)) (law start)
+    subst (λ (x : Member × Guest). Runs start x.0 (settled_runner x.1 [])) (λ i. (sym is i, sym guest i)) (law start)
 
 pub first-sized : (start : HistoryState) (machine : State) → machine.guest ≡ start.guest → IsSized start machine.guest
 first-sized start machine is = record {
@@ -58,10 +58,10 @@ first-sized start machine is = record {
 }
 
 pub first-stands : (start : HistoryState) (image : ImageState) (seat : Member) → FirstBackupLaw → seat ≡ unseen first_backup
-    → image ≡ first_image image.shape start.guest → StandsWith start seat image
+    → image ≡ first_image image.shape start.guest → ImageStands start seat image
 first-stands start image seat law is at =
-    let stands : StandsWith start (unseen first_backup) (first_image image.shape start.guest) = law start in
-    subst (λ (x : Member × ImageState). StandsWith start x.0 x.1) (λ i. (sym is i, sym at i)) stands
+    let stands : ImageStands start (unseen first_backup) (first_image image.shape start.guest) = law start in
+    subst (λ (x : Member × ImageState). ImageStands start x.0 x.1) (λ i. (sym is i, sym at i)) stands
 
 module _ (start : HistoryState) (clients : ℕ) (book : Unnamed) (machine : State) (image : ImageState)
     (h : IsUnnamed clients book machine image) (is : start ≡ start_with image.guest book.clients) where

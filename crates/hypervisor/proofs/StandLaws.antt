@@ -10,15 +10,15 @@ use Rattle.backup_image.specs.Images.{ImageState, answer_at, stage_answer, appli
 use Rattle.backup_image.specs.Kept as images
 use Rattle.backup_image.specs.Kept.{count_kept, first_kept}
 use Rattle.backup_image.specs.Limits.{number_limit}
-use Rattle.epoch_snapshot.specs.Checkpoints.{Change}
+use Rattle.epoch_snapshot.specs.Checkpoints.{Change, is_old_delta}
 use Rattle.growing_history.specs.Views.{Member}
 use Rattle.pair_book.specs.declared.failures.Ack.{Ack}
-use Rattle.pair_book.specs.Commits.{is_old_delta, Acknowledges, sent_with, first_with, kept_with}
+use Rattle.pair_book.specs.Commits.{Acknowledges, sent_then, first_then, kept_then}
 use Rattle.pair_book.specs.Standing.{ack_before, Stands}
 use Rattle.pair_history.specs.Entries.{Frame}
 use Rattle.pair_history.specs.HistoryState.{HistoryState}
 use Rattle.pair_record.specs.Kept.{all_frames}
-use Rattle.hypervisor.specs.Backups.{ack_of, last_of, kept_of, StandsWith}
+use Rattle.hypervisor.specs.Backups.{ack_of, last_of, kept_of, ImageStands}
 
 -- THE FRAMES that an image keeps
 
@@ -81,13 +81,13 @@ stage-again i c ack old last is =
 
 -- AND ONCE IT HAS TAKEN IT IN
 pub stands-applied : (start : HistoryState) (c : Change) (ack : Ack) (seat seat' : Member) (i : ImageState) → Acknowledges false c ack
-    → Stands start seat' (applied i (Some c)).guest (Some ack) (sent_with c i.sent) (first_with c i.sent i.kept) (kept_with c i.kept)
-    → StandsWith start seat' (applied i (Some c))
+    → Stands start seat' (applied i (Some c)).guest (Some ack) (sent_then c i.sent) (first_then c i.sent i.kept) (kept_then c i.kept)
+    → ImageStands start seat' (applied i (Some c))
 stands-applied start c ack seat seat' i is stands =
-    let first : first_with c i.sent i.kept ≡ first_kept (kept_of (applied i (Some c))) =
-    ap (λ (n : ℕ). sent_with c i.sent + 1 - n) (sym (count-kept (kept_with c i.kept))) in
+    let first : first_then c i.sent i.kept ≡ first_kept (kept_of (applied i (Some c))) =
+    ap (λ (n : ℕ). sent_then c i.sent + 1 - n) (sym (count-kept (kept_then c i.kept))) in
     subst
-    (λ (x : Ack × ℕ). Stands start seat' (applied i (Some c)).guest (Some x.0) (sent_with c i.sent) x.1 (kept_with c i.kept))
+    (λ (x : Ack × ℕ). Stands start seat' (applied i (Some c)).guest (Some x.0) (sent_then c i.sent) x.1 (kept_then c i.kept))
     (λ k. (is k, first k)) stands
 
 pub some-standing : (at : Option Standing) → IsSome (option_map ack_of at) → IsSome at

@@ -15,7 +15,7 @@ use Rattle.pair_record.specs.declared.event.Refusal.TheVariants.{Stopped, Behind
 use Rattle.pair_record.specs.EpochActs.{guest_epoch, behind}
 use Rattle.pair_record.specs.Limits.{most_pending}
 use Rattle.pair_record.specs.Protocol.{Record, Row, first_refusal}
-use Rattle.growing_history.specs.LogState.{LogState, Legal, Needs, MayStep, state_at, sealed_state, after}
+use Rattle.growing_history.specs.LogState.{LogState, LegalSteps, Needs, MayStep, state_at, sealed_state, after_step}
 use Rattle.growing_history.specs.SealedTexts.{Makes as TextMakes}
 use Rattle.growing_history.specs.Steps.{What, Step, step, Begins, steps_by}
 use Rattle.growing_history.specs.Views.{Member}
@@ -31,8 +31,8 @@ use Rattle.pair_book.specs.Made.{IsShape, Reads, carried, IsPrepared}
 use Rattle.pair_book.specs.Packets.{PacketState}
 use Rattle.pair_book.specs.Running.{may_run}
 use Rattle.pair_book.specs.Settled as book
-use Rattle.pair_book.specs.Settled.{Runs, Follows, epoch_of, numbers_of, just_settled}
-use Rattle.pair_book.specs.Submitting.{protocol_ended, ended, ended_rows, prepared_rows, submit_why, told_as, told, wanted_kind}
+use Rattle.pair_book.specs.Settled.{Runs, Follows, epoch_of, numbers_of, settled_runner}
+use Rattle.pair_book.specs.Submitting.{protocol_ended, ended, ended_rows, prepared_rows, submit_why, told_as, epoch_told, wanted_kind}
 use Rattle.pair_book.proofs.EpochWords.{epoch-is, behind-arrivals}
 use Rattle.hypervisor.specs.Preparing.{Carries, Suits}
 use Rattle.hypervisor.specs.Refusals.{submit_refusals}
@@ -68,7 +68,7 @@ module _ (start : HistoryState) (m : State) (settled : Guest) (sized : IsSized s
 
 -- a text of a runner's machine is what it has to prepare
 abbrev pub PreparedLaw : Type 0
-PreparedLaw = (start : HistoryState) (seat : Member) (x : book.RunnerState) (c : PacketState) → Runs start seat x
+PreparedLaw = (start : HistoryState) (seat : Member) (x : book.RunnerOutside) (c : PacketState) → Runs start seat x
     → TextMakes (Reads start) c.number c.text (carried c.number x.outbox) x.settled x.guest
     → IsPrepared start seat x.arrivals x.steps x.outbox (prepared.Checkpoint c)
 
@@ -81,16 +81,16 @@ brings-prepared start r is (prepared.Checkpoint c) law suits =
 
 -- a runner runs on where its seat looks
 abbrev pub LookLaw : Type 0
-LookLaw = (start : HistoryState) (seat : Member) (now : List Step) (x : book.RunnerState) → Begins seat.steps now → Legal start now
+LookLaw = (start : HistoryState) (seat : Member) (now : List Step) (x : book.RunnerOutside) → Begins seat.steps now → LegalSteps start now
     → steps_by seat.number now ≡ steps_by seat.number seat.steps → Runs start seat x
     → Runs start (record { number = seat.number; steps = now }) x
 
 -- THE STEP is told
 module _ (start : HistoryState) (r : RunnerState) (is : IsRunner start r) (b b' : BookState) (seat' : Member)
-    (made : Makes (told b r.arrivals r.steps r.what) b b' r.seat seat') (legal : Legal start b.steps) (legal' : Legal start seat'.steps)
+    (made : Makes (epoch_told b r.arrivals r.steps r.what) b b' r.seat seat') (legal : LegalSteps start b.steps) (legal' : LegalSteps start seat'.steps)
     (running : b.protocol.journal.running ≡ map Arrive (state_at start b.steps).handed)
-    (needed : (h : HistoryState) (xs : List Step) (x : Step) → Legal h (xs ++ x ∷ []) → Needs (state_at h xs) x)
-    (goes-on : (h : HistoryState) (xs : List Step) (x : Step) → state_at h (xs ++ x ∷ []) ≡ after (state_at h xs) x.what)
+    (needed : (h : HistoryState) (xs : List Step) (x : Step) → LegalSteps h (xs ++ x ∷ []) → Needs (state_at h xs) x)
+    (goes-on : (h : HistoryState) (xs : List Step) (x : Step) → state_at h (xs ++ x ∷ []) ≡ after_step (state_at h xs) x.what)
     (look : LookLaw) where
   abbrev s : LogState
   s = state_at start b.steps
@@ -104,7 +104,7 @@ module _ (start : HistoryState) (r : RunnerState) (is : IsRunner start r) (b b' 
   abbrev one : Step
   one = step r.seat.number what
 
-  abbrev x : book.RunnerState
+  abbrev x : book.RunnerOutside
   x = outside r is.runs.settled
 
   grown : seat'.steps ≡ b.steps ++ one ∷ []
@@ -119,7 +119,7 @@ module _ (start : HistoryState) (r : RunnerState) (is : IsRunner start r) (b b' 
   now = look start r.seat b.steps x made.saw legal own is.runs.runs
 
   live : r.seat.number ≡ s.runner
-  live = by_what r.what (needed start b.steps one (subst (Legal start) grown legal')).may
+  live = by_what r.what (needed start b.steps one (subst (LegalSteps start) grown legal')).may
     where
       by_what : (w : Prepared) → MayStep s r.seat.number (told_as w epoch) → r.seat.number ≡ s.runner
       by_what prepared.Nothing may = may.0
@@ -178,7 +178,7 @@ module _ (start : HistoryState) (r : RunnerState) (is : IsRunner start r) (b b' 
         by_held (y ∷ ps) low same = ap (λ (g : Handing). g.frames) same
 
   -- where it is live then, what it holds is what is handed out
-  pub holds-handed : (guest : Guest) (held : List (ℕ × Frame)) → Runs start seat' (just_settled guest held)
+  pub holds-handed : (guest : Guest) (held : List (ℕ × Frame)) → Runs start seat' (settled_runner guest held)
       → numbers_of held ≡ (state_at start seat'.steps).handed
   holds-handed guest held then =
       then.holds
@@ -188,7 +188,7 @@ module _ (start : HistoryState) (r : RunnerState) (is : IsRunner start r) (b b' 
       ∙ sym live
       ∙ sym (ap (λ (m : Member). m.number) made.sees))
     where
-      stays : (w : Prepared) → (after s (told_as w epoch)).runner ≡ s.runner
+      stays : (w : Prepared) → (after_step s (told_as w epoch)).runner ≡ s.runner
       stays prepared.Nothing = refl
       stays (prepared.Checkpoint c) = refl
 

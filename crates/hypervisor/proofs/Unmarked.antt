@@ -7,7 +7,7 @@ use Rattle.checkpoint_stream.specs.Text.{text as text_of}
 use Rattle.checkpoint_stream.specs.declared.errors.StreamError.{StreamError}
 use Rattle.epoch_snapshot.specs.Checkpoints.{Change}
 use Rattle.growing_history.specs.FirstGeneration.{AreUnmarked, CommitsSealed}
-use Rattle.growing_history.specs.LogState.{first_backup, Legal}
+use Rattle.growing_history.specs.LogState.{first_backup, LegalSteps}
 use Rattle.growing_history.specs.Steps.{Sealed, Committed, Step, step, Begins, steps_by}
 use Rattle.growing_history.specs.Views.{Member}
 use Rattle.guest_machine.specs.declared.shapes.Shape.{Shape}
@@ -24,12 +24,12 @@ use Rattle.hypervisor.specs.Seats.{MakesStep, Looks}
 
 -- steps of others make no mark
 abbrev pub OthersLaw : Type 0
-OthersLaw = (h : HistoryState) (old now : List Step) → Begins old now → Legal h now → steps_by first_backup now ≡ steps_by first_backup old
+OthersLaw = (h : HistoryState) (old now : List Step) → Begins old now → LegalSteps h now → steps_by first_backup now ≡ steps_by first_backup old
     → AreUnmarked h old → AreUnmarked h now
 
 -- nor does its own commit of what was sealed
 abbrev pub OwnLaw : Type 0
-OwnLaw = (h : HistoryState) (old now : List Step) → CommitsSealed old now → Legal h now → AreUnmarked h old → AreUnmarked h now
+OwnLaw = (h : HistoryState) (old now : List Step) → CommitsSealed old now → LegalSteps h now → AreUnmarked h old → AreUnmarked h now
 
 -- what was sealed stays so
 pub sealed-later : (xs ys : List Step) (p : PacketState) → Begins xs ys → WasSealed xs p → WasSealed ys p

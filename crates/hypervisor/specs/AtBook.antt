@@ -10,7 +10,7 @@ use Rattle.pair_book.specs.Books.{BookState}
 use Rattle.pair_book.specs.Calls.{Makes}
 use Rattle.pair_book.specs.declared.prepared.Prepared.{Prepared}
 use Rattle.pair_book.specs.Handing.{handing, HandsNext}
-use Rattle.pair_book.specs.Submitting.{ended, told, submit_why, texts_ended}
+use Rattle.pair_book.specs.Submitting.{ended, epoch_told, submit_why, texts_ended}
 
 -- a refused delivery leaves the book as it was, but that an entry tells of a full inbox
 abbrev pub KeepsBookUnlessFull : ℕ → Frame → BookState → BookState → Refusal → Type 0
@@ -22,6 +22,6 @@ KeepsBookUnlessFull c f old new why = new ≡ old
 pub record EndsAtBook (start : HistoryState) (old new : BookState) (seat seat' : Member) (arrivals steps : ℕ) (frames : List Frame)
     (what : Prepared) (next : List (ℕ × Frame)) : Type 0 where
   pub free : submit_why start old seat.number what steps frames ≡ None
-  pub step : Makes (told old arrivals steps what) old new seat seat'
+  pub step : Makes (epoch_told old arrivals steps what) old new seat seat'
   pub texts : new.texts ≡ texts_ended what old.texts
   pub hands : HandsNext (ended old arrivals steps frames) (handing new.protocol new.ports next)

@@ -5,13 +5,14 @@ use Rattle.backup_image.specs.Images.{ImageState}
 use Rattle.backup_image.specs.Kept.{Kept, first_kept}
 use Rattle.checkpoint_stream.specs.Readings.{Reading, begun, fed, is_whole}
 use Rattle.epoch_snapshot.specs.Checkpoints.{Change}
-use Rattle.growing_history.specs.LogState.{state_at, is_filling}
+use Rattle.growing_history.specs.LogState.{state_at}
 use Rattle.growing_history.specs.Views.{Member}
 use Rattle.pair_book.specs.declared.failures.Ack.{Ack}
 use Rattle.pair_book.specs.Commits.{WasRead}
 use Rattle.pair_book.specs.Made.{IsShape}
 use Rattle.pair_book.specs.Standing.{IsLive, Stands}
 use Rattle.pair_history.specs.HistoryState.{HistoryState}
+use Rattle.failover.specs.Modes.{is_filling}
 
 pub record BackupState : Type 0 where
   -- the image of its last commit
@@ -42,8 +43,8 @@ last_of i = option_map ack_of i.stands_at
 abbrev pub kept_of : ImageState → Kept
 kept_of i = record { lists = i.kept; sent = i.sent }
 
-abbrev pub StandsWith : HistoryState → Member → ImageState → Type 0
-StandsWith start seat i = Stands start seat i.guest (last_of i) i.sent (first_kept (kept_of i)) i.kept
+abbrev pub ImageStands : HistoryState → Member → ImageState → Type 0
+ImageStands start seat i = Stands start seat i.guest (last_of i) i.sent (first_kept (kept_of i)) i.kept
 
 -- Bytes came since the last checkpoint was read whole, or since the start; what they are read as.
 pub record ReadsOn (r : Reading) : Type 0 where
@@ -62,7 +63,7 @@ pub record IsBackup (start : HistoryState) (b : BackupState) : Type 0 where
   pub read_shape : (c : Change) → b.read ≡ Some c → c.shape ≡ b.image.shape
   pub was_read : (c : Change) → b.read ≡ Some c → WasRead c
   pub pair_shape : IsShape start b.image.shape
-  pub stands : StandsWith start b.seat b.image
+  pub stands : ImageStands start b.seat b.image
 
 -- Where the backup is the live one's in what it has seen, no commit is marked there and it has been filled, its image's guest is the guest
 -- of the history that it has seen.

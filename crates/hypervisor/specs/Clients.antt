@@ -7,7 +7,7 @@ use Rattle.pair_record.specs.declared.event.Refusal.{Refusal}
 use Rattle.pair_record.specs.declared.event.Refusal.TheVariants.{Full}
 use Rattle.growing_history.specs.Entries.{own_entries, IsCall}
 use Rattle.growing_history.specs.Steps.{Added, Step, Begins}
-use Rattle.growing_history.specs.LogState.{Legal, state_at, history_of, client_seat}
+use Rattle.growing_history.specs.LogState.{LegalSteps, state_at, history_of, client_seat}
 use Rattle.growing_history.specs.Views.{Member}
 use Rattle.pair_book.specs.Books.{inbox_at}
 use Rattle.pair_book.specs.Calls.{client_of}
@@ -47,7 +47,7 @@ RefusesDelivery start f why old new = new ≡ old
 -- was told; and its own entries are those before.
 pub record Learns (start : HistoryState) (badge : List Step) (old new : ClientState) : Type 0 where
   pub number : new.number ≡ old.number
-  pub legal : Legal start new.seen
+  pub legal : LegalSteps start new.seen
   pub seen : Begins old.seen new.seen
   pub told : Begins badge new.seen
   pub own : own start new ≡ own start old

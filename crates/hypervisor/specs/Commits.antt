@@ -6,15 +6,15 @@ use Rattle.backup_image.specs.Images.{ImageState, applied, stage_answer}
 use Rattle.backup_image.specs.Kept.{sent_with}
 use Rattle.backup_image.specs.Limits.{number_limit}
 use Rattle.backup_image.specs.declared.standing.Staged.TheVariants.{New, Again}
-use Rattle.epoch_snapshot.specs.Checkpoints.{Change}
+use Rattle.epoch_snapshot.specs.Checkpoints.{Change, is_old_delta}
 use Rattle.growing_history.specs.Views.{Member}
 use Rattle.pair_history.specs.HistoryState.{HistoryState}
 use Rattle.pair_record.specs.declared.event.Refusal.{Refusal}
 use Rattle.pair_record.specs.declared.event.Refusal.TheVariants.{Stopped, Stale, Gap, NoMemory, Exhausted, OldVersion}
 use Rattle.pair_book.specs.declared.failures.Ack.{Ack}
 use Rattle.pair_book.specs.Books.{BookState}
-use Rattle.pair_book.specs.Commits.{commit_of, is_old_delta, is_earlier, commit_why, Acknowledges}
-use Rattle.hypervisor.specs.Backups.{BackupState, StandsWith, last_of}
+use Rattle.pair_book.specs.Commits.{commit_of, is_earlier, commit_why, Acknowledges}
+use Rattle.hypervisor.specs.Backups.{BackupState, ImageStands, last_of}
 use Rattle.hypervisor.specs.Refusals.{MayRefuseUnless}
 use Rattle.hypervisor.specs.Seats.{MakesStep, Looks}
 
@@ -48,7 +48,7 @@ pub record CommitsAtBook (start : HistoryState) (c : Change) (ack : Ack) (image 
   pub step : MakesStep start seat.number (commit_of c) seat.steps seat'.steps
   -- the image can take it in, and the backup stands once it has
   pub new : stage_answer image c ≡ Ok New
-  pub stands : StandsWith start seat' (applied image (Some c))
+  pub stands : ImageStands start seat' (applied image (Some c))
 
 pub record AgainAtBook (start : HistoryState) (c : Change) (ack : Ack) (image : ImageState) (seat seat' : Member) : Type 0 where
   pub acknowledged : Acknowledges true c ack
@@ -57,7 +57,7 @@ pub record AgainAtBook (start : HistoryState) (c : Change) (ack : Ack) (image : 
   pub again : stage_answer image c ≡ Ok Again
   pub number : seat'.number ≡ seat.number
   pub looks : Looks start seat.number seat.steps seat'.steps
-  pub stands : StandsWith start seat' image
+  pub stands : ImageStands start seat' image
 
 abbrev pub AtBook : Bool → HistoryState → Change → Ack → ImageState → Member → Member → Type 0
 AtBook true start c ack image seat seat' = CommitsAtBook start c ack image seat seat'

@@ -5,7 +5,7 @@ use Rattle.backup_image.specs.Images.{ImageState, settled_machine}
 use Rattle.growing_history.specs.LogState.{state_at}
 use Rattle.growing_history.specs.Steps.{WentLive, Begins}
 use Rattle.growing_history.specs.Views.{Member}
-use Rattle.pair_book.specs.Settled.{just_settled, Runs}
+use Rattle.pair_book.specs.Settled.{settled_runner, Runs}
 use Rattle.pair_history.specs.HistoryState.{HistoryState}
 use Rattle.pair_record.specs.declared.event.Refusal.{Refusal}
 use Rattle.pair_record.specs.declared.event.Refusal.TheVariants.{Stopped, NotPaired, AlreadyPaired, NoMemory, Exhausted}
@@ -30,7 +30,7 @@ pub record GoesLiveWith (start : HistoryState) (i : ImageState) (seat runner : M
   pub saw : Begins seat.steps runner.steps
   pub seen : (state_at start seat.steps).marked ≡ 0 → i.guest ≡ (state_at start seat.steps).history.guest
   pub now : (state_at start runner.steps).marked ≡ 0 → i.guest ≡ (state_at start runner.steps).history.guest
-  pub runs : Runs start runner (just_settled i.guest [])
+  pub runs : Runs start runner (settled_runner i.guest [])
 
 abbrev pub live_refusals : List Refusal
 live_refusals = NotPaired ∷ AlreadyPaired ∷ Stopped ∷ Exhausted ∷ NoMemory wanted ∷ []

@@ -3,7 +3,7 @@ use Rattle.std.specs.Prelude.{◌≡◌, ℕ, ◌<◌, List, [], length, get_or}
 use Rattle.pair_history.specs.HistoryState.{HistoryState}
 use Rattle.growing_history.specs.Entries.{own_entries}
 use Rattle.growing_history.specs.Steps.{Step, Begins}
-use Rattle.growing_history.specs.LogState.{Legal, state_at, history_of}
+use Rattle.growing_history.specs.LogState.{LegalSteps, state_at, history_of}
 use Rattle.pair_book.specs.Books.{BookState}
 use Rattle.hypervisor.specs.Clients.{ClientState, own}
 use Rattle.hypervisor.specs.Service.{AreOfOneGuest}
@@ -35,7 +35,7 @@ found_at b = record {
 -- next checkpoint gets; and where no checkpoint is pending, each that was sealed is committed. Their history is of one guest that never
 -- fails, unless a commit is marked.
 pub record HasFound (start : HistoryState) (all : List Step) (found : Found) : Type 0 where
-  pub legal : Legal start all
+  pub legal : LegalSteps start all
   pub guest : AreOfOneGuest start all
   pub entries : (state_at start all).marked ≡ 0 → found.entries ≡ length (history_of start all)
   pub generation : found.generation ≡ (state_at start all).generation

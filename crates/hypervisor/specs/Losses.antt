@@ -5,8 +5,8 @@ use Rattle.pair_history.specs.HistoryState.{HistoryState}
 use Rattle.growing_history.specs.Steps.{Added, Step}
 use Rattle.growing_history.specs.LogState.{LogState, line_seat, state_at}
 use Rattle.pair_book.specs.Books.{inbox_at, box_at}
-use Rattle.pair_book.specs.declared.losses.Loss.{Loss}
-use Rattle.pair_book.specs.declared.losses.Loss.TheVariants.{Dropped, Empty}
+use Rattle.pair_book.specs.declared.losses.Lost.{Lost}
+use Rattle.pair_book.specs.declared.losses.Lost.TheVariants.{Dropped, Empty}
 use Rattle.hypervisor.specs.Seats.{MakesStep, Looks}
 
 -- the line's step tells this entry
@@ -18,7 +18,7 @@ abbrev pub state_before : (start : HistoryState) → List Step → (between : Li
 state_before start old between = state_at start (old ++ between)
 
 -- The frame at this place of this client's inbox was dropped, under its number; or none stood there, and the seat has looked.
-abbrev pub AfterLossIn : HistoryState → ℕ → ℕ → Loss → List Step → List Step → Type 0
+abbrev pub AfterLossIn : HistoryState → ℕ → ℕ → Lost → List Step → List Step → Type 0
 AfterLossIn start c place Dropped old new =
     (n : ℕ)
     × (f : Frame)
@@ -28,7 +28,7 @@ AfterLossIn start c place Empty old new =
     Looks start line_seat old new × (slice_get (inbox_at (state_at start new) c) place ≡ None)
 
 -- so too of its box, whose frames are those of the history unless a commit is marked
-abbrev pub AfterLossOut : HistoryState → ℕ → ℕ → Loss → List Step → List Step → Type 0
+abbrev pub AfterLossOut : HistoryState → ℕ → ℕ → Lost → List Step → List Step → Type 0
 AfterLossOut start c place Dropped old new =
     (drops : Drops start (DropOut c place) old new)
     × ((state_before start old drops.seen.0).marked ≡ 0

@@ -1,7 +1,7 @@
 -- What a runner prepares of its machine: no checkpoint, a delta or a full one, each as its text.
 use Rattle.std.specs.Prelude.{◌≡◌, ℕ, zero, suc, Bool, true, false, ◌&&◌, nat_le, nat_lt, [], length, replicate}
 use Rattle.guest_machine.specs.Guest.{Guest, State, sector_count}
-use Rattle.epoch_snapshot.specs.Bases.{IsBase, IsCut}
+use Rattle.epoch_snapshot.specs.Bases.{IsBase, IsCheckpointOver}
 use Rattle.epoch_snapshot.specs.Checkpoints.{Change}
 use Rattle.epoch_snapshot.specs.Cuts.{used_sectors}
 use Rattle.epoch_snapshot.specs.Images.{image_of}
@@ -19,7 +19,7 @@ use Rattle.pair_book.specs.declared.runner.Want.{Want}
 -- last settled, with the frames in its outbox. It makes the machine's guest of each guest that the machine's delta stands over.
 pub record CarriesDelta (m : State) (generation number : ℕ) (p : PacketState) : Type 0 where
   pub change : Change
-  pub cut : IsCut m.settled m.dirty m.outbox m generation number change
+  pub cut : IsCheckpointOver m.settled m.dirty m.outbox m generation number change
   pub image : (base : Guest) → IsBase m base → image_of change base ≡ m.guest
   pub reads_back : ReadsBack change p.text
   pub is_text : p.text ≡ text change
@@ -30,7 +30,7 @@ pub record CarriesDelta (m : State) (generation number : ℕ) (p : PacketState) 
 -- guest of any guest.
 pub record CarriesFull (m : State) (generation : ℕ) (p : PacketState) : Type 0 where
   pub change : Change
-  pub cut : IsCut (replicate (length m.guest.ram) 0) (used_sectors m.guest.sectors (sector_count m.guest.sectors)) [] m generation 0 change
+  pub cut : IsCheckpointOver (replicate (length m.guest.ram) 0) (used_sectors m.guest.sectors (sector_count m.guest.sectors)) [] m generation 0 change
   pub image : (base : Guest) → image_of change base ≡ m.guest
   pub reads_back : ReadsBack change p.text
   pub is_text : p.text ≡ text change

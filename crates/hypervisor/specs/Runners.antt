@@ -40,8 +40,8 @@ pub record IsSized (start : HistoryState) (g : Guest) : Type 0 where
   pub sectors : length g.sectors ≡ length start.guest.sectors
 
 -- what the book's laws take of a runner whose machine was last settled with this guest
-abbrev pub outside : RunnerState → Guest → book.RunnerState
-outside r settled = book.runner_state r.arrivals r.steps r.held r.machine.guest r.machine.outbox settled
+abbrev pub outside : RunnerState → Guest → book.RunnerOutside
+outside r settled = book.runner_outside r.arrivals r.steps r.held r.machine.guest r.machine.outbox settled
 
 -- It runs on from a guest with which its machine was last settled.
 pub record RunsFromSettled (start : HistoryState) (r : RunnerState) : Type 0 where

@@ -8,15 +8,15 @@ use Rattle.pair_history.specs.HistoryState as history
 use Rattle.pair_history.specs.Released.{account, WasSent}
 use Rattle.growing_history.specs.Entries.{own_entries}
 use Rattle.growing_history.specs.Steps.{Step}
-use Rattle.growing_history.specs.LogState.{Legal, state_at, history_of}
-use Rattle.growing_history.specs.Service.{Answers}
+use Rattle.growing_history.specs.LogState.{LegalSteps, state_at, history_of}
+use Rattle.growing_history.specs.Service.{GuestAnswers}
 use Rattle.hypervisor.specs.Clients.{ClientState, own}
 
 -- A history of one guest that never fails, behind a line that may drop frames: it is legal; each call in it was answered as the guest's
 -- state at that point answers it; and what came to a client was sent to it by a step of the guest.
 pub record HasOneGuest (start : HistoryState) (es : List Entry) : Type 0 where
   pub legal : history.Legal start es
-  pub answers : (before later : List Entry) (e : Entry) → es ≡ before ++ e ∷ later → Answers (at start before) e
+  pub answers : (before later : List Entry) (e : Entry) → es ≡ before ++ e ∷ later → GuestAnswers (at start before) e
   pub came : (c : ℕ) → All (WasSent start es c) (account start es c).released
 
 -- unless a commit is marked among these steps, their history is such a one
@@ -31,7 +31,7 @@ pub record IsPointOf (start : HistoryState) (all : List Step) (client : ClientSt
 -- What two clients have seen are points of one growing history.
 pub record ShareOneHistory (start : HistoryState) (c d : ClientState) : Type 0 where
   pub all : List Step
-  pub legal : Legal start all
+  pub legal : LegalSteps start all
   pub guest : AreOfOneGuest start all
   pub one : IsPointOf start all c
   pub other : IsPointOf start all d

@@ -5,8 +5,8 @@ ghost use Rattle.backup_image.specs.Images.{settled_machine};
 ghost use Rattle.checkpoint_stream.specs.Readings.{is_closed};
 ghost use Rattle.pair_book.specs.Commits.{WasRead};
 ghost use Rattle.pair_book.specs.Made.{IsShape};
-ghost use Rattle.pair_book.specs.Settled.{just_settled, Runs};
-ghost use Rattle.hypervisor.specs.Backups.{new_backup, StandsWith, HasHistorysGuest};
+ghost use Rattle.pair_book.specs.Settled.{settled_runner, Runs};
+ghost use Rattle.hypervisor.specs.Backups.{new_backup, ImageStands, HasHistorysGuest};
 ghost use Rattle.hypervisor.specs.Commits.{Commits, MayRefuseCommit, AfterRefusedCommit, gives_up};
 ghost use Rattle.hypervisor.specs.Feeding.{Feeds};
 ghost use Rattle.hypervisor.specs.FirstBackups.{AfterPacket, AnswersPacket, HasSeen, Hears, ReadsWhole, is_all_of};
@@ -21,7 +21,7 @@ use checkpoint_stream::{Reader, StreamError, read_is_its_text};
 use epoch_snapshot::Checkpoint;
 use growing_history::{BackupSeat, Badge, Clock, Pair, RunnerSeat};
 use guest_machine::Shape;
-use pair_book::{Ack, Book, Packet, Refusal, members_go_on};
+use pair_book::{Ack, Book, Refusal, TextPacket, members_go_on};
 use std::alloc::Global;
 use std::marker::Model;
 use std::sync::{Arc, Wait};
@@ -60,7 +60,7 @@ impl<P: Pair> Backup<P> {
     ) -> Backup<P>
         requires unstaged { image.staged ≡ None }
         requires shape { IsShape P.start image.shape }
-        requires stands { StandsWith P.start seat image }
+        requires stands { ImageStands P.start seat image }
         ensures { result ≡ new_backup image seat }
     {
         let reader = Reader::new(alloc, image.shape());
@@ -146,7 +146,7 @@ impl<P: Pair> Backup<P> {
     pub(crate) fn read_packet(
         &mut self,
         alloc: Global,
-        packet: &Packet,
+        packet: &TextPacket,
     ) -> Result<bool, StreamError>
         ensures answers { AnswersPacket self.old.image.shape packet.now result }
         ensures after { AfterPacket packet.now result self.old self.new }
@@ -252,7 +252,7 @@ impl<P: Pair> Backup<P> {
 fn read_whole(
     alloc: Global,
     shape: Shape,
-    packet: &Packet,
+    packet: &TextPacket,
 ) -> Result<Option<Checkpoint>, StreamError>
     ensures { ReadsWhole shape packet.now result }
 {
@@ -271,7 +271,7 @@ fn read_whole(
 }
 
 /// Whether so many bytes are all of the packet's, and this checkpoint has its generation and number.
-fn is_all_of(count: usize, checkpoint: &Checkpoint, packet: &Packet) -> bool
+fn is_all_of(count: usize, checkpoint: &Checkpoint, packet: &TextPacket) -> bool
     ensures value { result ≡ is_all_of count checkpoint.now packet.now }
     ensures all { result ≡ true → length packet.now.text ≤ count }
     ensures generation { result ≡ true → checkpoint.now.generation ≡ packet.now.generation }
@@ -289,7 +289,7 @@ fn goes_live<P: Pair, R: Wait>(
     seat: &mut BackupSeat<P>,
     image: &Image,
 ) -> Result<RunnerSeat<P>, Refusal>
-    requires stands { StandsWith P.start seat.old image.now }
+    requires stands { ImageStands P.start seat.old image.now }
     ensures live { IfOk result (GoesLiveWith P.start image.now seat.old) }
     ensures why { IfErr result (Contains live_refusals) }
     ensures refused { OnErr result (seat.new ≡ seat.old) }
@@ -313,7 +313,7 @@ fn resumed<P: Pair>(
 ) -> Runner<P>
     requires some { IsSome image.stands_at }
     requires shape { IsShape P.start image.shape }
-    requires runs { Runs P.start seat (just_settled image.guest []) }
+    requires runs { Runs P.start seat (settled_runner image.guest []) }
     ensures { result ≡ new_runner (settled_machine image.shape image.guest) seat }
 {
     match image.resume() {

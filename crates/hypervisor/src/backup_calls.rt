@@ -12,7 +12,7 @@ ghost use Rattle.pair_book.specs.Commits.{WasRead, is_earlier, AfterCommit};
 ghost use Rattle.pair_book.specs.GoingLive.{GoesLive, go_live_why};
 ghost use Rattle.pair_book.specs.Packets.{no_texts};
 ghost use Rattle.pair_book.specs.Made.{IsShape};
-ghost use Rattle.hypervisor.specs.Backups.{StandsWith, kept_of};
+ghost use Rattle.hypervisor.specs.Backups.{ImageStands, kept_of};
 ghost use Rattle.hypervisor.specs.Commits.{why_not, image_after, AtBook, MayRefuseCommit};
 ghost use Rattle.hypervisor.specs.GoingLive.{GoesLiveWith, live_refusals};
 
@@ -70,7 +70,7 @@ pub(crate) fn commit<P: Pair>(
     requires shape { IsShape P.start image.now.shape }
     requires same_shape { IfSome read (λ c. c.now.shape ≡ image.now.shape) }
     requires was_read { IfSome read (λ c. WasRead c.now) }
-    requires stands { StandsWith P.start seat.old image.now }
+    requires stands { ImageStands P.start seat.old image.now }
     ensures some { OnOk result (IsSome read.entry) }
     // What it does at the book, and why it is refused there.
     ensures which { IfOk result (λ done. IfSome read.entry (λ c. done.is_next ≡ not (is_earlier book.old c.now))) }
@@ -81,7 +81,7 @@ pub(crate) fn commit<P: Pair>(
     ensures done { IfOk result (λ done. IfSome read.entry (λ c. AtBook done.is_next P.start c.now done.ack image.now seat.old seat.new)) }
     // The backup stands, once its image has taken that in.
     ensures stands { IfOk result (λ done.
-        StandsWith P.start seat.new (image_after done.is_next image.now (option_map (λ c. c.now) read.entry))) }
+        ImageStands P.start seat.new (image_after done.is_next image.now (option_map (λ c. c.now) read.entry))) }
     ensures why { IfErr result (MayRefuseCommit (option_map (λ c. c.now) read.entry)) }
     ensures refused { OnErr result (seat.new ≡ seat.old) }
 {
@@ -116,7 +116,7 @@ pub(crate) fn go_live<P: Pair>(
     seat: &mut BackupSeat<P>,
     image: &Image,
 ) -> Result<RunnerSeat<P>, Refusal>
-    requires stands { StandsWith P.start seat.old image.now }
+    requires stands { ImageStands P.start seat.old image.now }
     ensures live { IfOk result (GoesLiveWith P.start image.now seat.old) }
     ensures why { IfErr result (Contains live_refusals) }
     ensures refused { OnErr result (seat.new ≡ seat.old) }

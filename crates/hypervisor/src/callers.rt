@@ -4,7 +4,7 @@ ghost use Rattle.frame_ports.specs.Ports.{after_delivery};
 ghost use Rattle.pair_history.specs.Entries.{Delivered, Took};
 ghost use Rattle.pair_record.specs.declared.event.Reply.TheVariants as replies;
 ghost use Rattle.pair_record.specs.Protocol.{is_bad_length, first_refusal, deliver_done, take_done};
-ghost use Rattle.growing_history.specs.LogState.{Legal};
+ghost use Rattle.growing_history.specs.LogState.{LegalSteps};
 ghost use Rattle.std.specs.List.{Contains};
 ghost use Rattle.pair_record.specs.Record.{given, ports_after_take};
 ghost use Rattle.pair_book.specs.Calls.{IsClientSeat, IsWhy, entry_rows, deliver_rows, IsWhyDelivery};
@@ -48,7 +48,7 @@ impl<P: Pair> CallerSeat<P> {
         ensures number { result ≡ self.now.number }
         // What is true of every client.
         ensures client { (1 ≤ result) × (result ≤ length P.start.boxes) }
-        ensures legal { Legal P.start self.now.seen }
+        ensures legal { LegalSteps P.start self.now.seen }
     {
         self.seat.number() - LINE_SEAT
     }

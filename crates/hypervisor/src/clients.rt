@@ -2,7 +2,7 @@
 ghost use Rattle.std.specs.Prelude.{◌≡◌, ◌≤◌, length, false, IfOk, OnOk, IfErr};
 ghost use Rattle.pair_history.specs.Entries.{Delivered, Took};
 ghost use Rattle.pair_record.specs.Protocol.{is_bad_length};
-ghost use Rattle.growing_history.specs.LogState.{Legal};
+ghost use Rattle.growing_history.specs.LogState.{LegalSteps};
 ghost use Rattle.std.specs.List.{Contains};
 ghost use Rattle.pair_record.specs.Record.{given};
 ghost use Rattle.hypervisor.specs.Clients.{Calls, RefusesDelivery, Learns};
@@ -46,7 +46,7 @@ impl<P: Pair> Client<P> {
         ensures number { result ≡ self.now.number }
         // What is true of every client.
         ensures client { (1 ≤ result) × (result ≤ length P.start.boxes) }
-        ensures legal { Legal P.start self.now.seen }
+        ensures legal { LegalSteps P.start self.now.seen }
     {
         self.seat.number()
     }

@@ -29,7 +29,7 @@ pub use growing_history::{Badge, Pair};
 pub use laws::{answers_are_of_one_guest, clients_share_one_history};
 pub use looking::{Found, LaterGeneration};
 pub use losses::Loss;
-pub use pair_book::{Ack, Kind, Landed, Loss as Lost, Packet, Prepared, Refusal, Want};
+pub use pair_book::{Ack, Kind, LandedCount, Lost, Prepared, Refusal, TextPacket, Want};
 pub use pair_history::Frame;
 pub use runner::Runner;
 pub use sealed_packet::SealedPacket;

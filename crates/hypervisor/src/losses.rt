@@ -14,7 +14,7 @@ use crate::sealed_packet::SealedPacket;
 use crate::sender::next;
 use crate::shared::Shared;
 use growing_history::{Clock, Pair};
-use pair_book::{Book, LineSeat, Loss as Lost, Refusal};
+use pair_book::{Book, LineSeat, Lost, Refusal};
 use std::marker::Model;
 use std::sync::{Arc, Wait};
 

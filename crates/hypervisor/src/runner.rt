@@ -8,12 +8,12 @@ ghost use Rattle.frame_ports.specs.Limits.{number_limit};
 ghost use Rattle.guest_machine.specs.Guest.{HasDeviceRecords};
 ghost use Rattle.guest_machine.specs.Limits.{stepping_frames};
 ghost use Rattle.guest_machine.specs.Paces.{Lets, Holds};
-ghost use Rattle.growing_history.specs.LogState.{Legal, state_at};
+ghost use Rattle.growing_history.specs.LogState.{LegalSteps, state_at};
 ghost use Rattle.pair_history.specs.Reached.{IsReached};
 ghost use Rattle.pair_record.specs.Protocol.{first_refusal};
 ghost use Rattle.pair_book.specs.Calls.{IsWhy};
 ghost use Rattle.pair_book.specs.Running.{wanted_of};
-ghost use Rattle.pair_book.specs.Settled.{just_settled, numbers_of, Runs};
+ghost use Rattle.pair_book.specs.Settled.{settled_runner, numbers_of, Runs};
 ghost use Rattle.pair_book.specs.Submitting.{prepared_rows, submit_why};
 ghost use Rattle.pair_book.specs.declared.prepared.Prepared.{Prepared};
 ghost use Rattle.hypervisor.specs.AtBook.{EndsAtBook};
@@ -32,7 +32,7 @@ use guest_machine::{
 };
 use memory_wanted::MemoryWanted;
 use pair_book::{
-    Book, Kind, OpenEpoch, Packet, Prepared, Refusal, Want, members_go_on,
+    Book, Kind, OpenEpoch, Prepared, Refusal, TextPacket, Want, members_go_on,
     runners_bring_what_they_have,
 };
 use pair_history::{Frame, reached_states};
@@ -76,7 +76,7 @@ impl<P: Pair> Runner<P> {
         requires outbox { machine.outbox ≡ [] }
         requires settled { machine.settled ≡ machine.guest.ram }
         requires sized { IsSized P.start machine.guest }
-        requires runs { Runs P.start seat (just_settled machine.guest []) }
+        requires runs { Runs P.start seat (settled_runner machine.guest []) }
         ensures { result ≡ new_runner machine seat }
     {
         Runner {
@@ -218,7 +218,7 @@ impl<P: Pair> Runner<P> {
 fn runs_go_on<P: Pair>()
     ensures sized { (old new : RunnerState) (made : ℕ) → HasRun made old new → HasDeviceRecords old.machine.guest
         → IsSized P.start old.machine.guest → IsSized P.start new.machine.guest }
-    ensures runs { (old new : RunnerState) (made : ℕ) → HasRun made old new → IsReached P.start → Legal P.start old.seat.steps
+    ensures runs { (old new : RunnerState) (made : ℕ) → HasRun made old new → IsReached P.start → LegalSteps P.start old.seat.steps
         → (0 < old.arrivals + old.steps → old.held ≡ []) → RunsFromSettled P.start old → RunsFromSettled P.start new }
 {
     reached_states();
@@ -252,7 +252,7 @@ fn submit<P: Pair>(
     requires { IsRunner P.start (runner_state machine.now held.now epoch.arrivals epoch.steps what.now seat.old) }
     ensures added { OnOk result (Submits P.start
         (runner_state machine.now held.now epoch.arrivals epoch.steps what.now seat.old) seat.new) }
-    ensures runs { IfOk result (λ next. Runs P.start seat.new (just_settled machine.now.guest (held.now ++ next.items))) }
+    ensures runs { IfOk result (λ next. Runs P.start seat.new (settled_runner machine.now.guest (held.now ++ next.items))) }
     ensures frames { IfOk result (λ next. All (λ x. IsFrame x.1) next.items) }
     ensures rest { IfOk result (λ next. 0 < length held.now → next.items ≡ []) }
     ensures handed { IfOk result (λ next. numbers_of (held.now ++ next.items) ≡ (state_at P.start seat.new.steps).handed) }
@@ -316,16 +316,16 @@ fn is_possible(number: u64) -> bool
     1 <= number && number < NUMBER_LIMIT
 }
 
-/// The packet of a checkpoint, as [`Packet::new`] says. The checkpoint is let go of by a call: else each proof of what makes one would go
+/// The packet of a checkpoint, as [`TextPacket::new`] says. The checkpoint is let go of by a call: else each proof of what makes one would go
 /// over every part of it.
-fn packet_of(alloc: Global, checkpoint: Checkpoint) -> Result<Packet, MemoryWanted>
+fn packet_of(alloc: Global, checkpoint: Checkpoint) -> Result<TextPacket, MemoryWanted>
     requires { checkpoint.version ≡ 2 }
     ensures generation { IfOk result (λ p. p.generation ≡ checkpoint.generation) }
     ensures number { IfOk result (λ p. p.number ≡ checkpoint.number) }
     ensures text { IfOk result (λ p. p.text ≡ text checkpoint) }
     ensures read { IfOk result (λ p. ReadsBack checkpoint p.text) }
 {
-    let packet = Packet::new(alloc, &checkpoint);
+    let packet = TextPacket::new(alloc, &checkpoint);
     drop(checkpoint);
     packet
 }
@@ -336,7 +336,7 @@ fn delta(
     machine: &Machine,
     generation: u64,
     number: u64,
-) -> Result<Packet, MemoryWanted>
+) -> Result<TextPacket, MemoryWanted>
     requires first_generation { 1 ≤ generation }
     requires last_generation { generation < number_limit }
     requires first_number { 1 ≤ number }
@@ -352,7 +352,7 @@ fn delta(
 }
 
 /// The machine's full checkpoint, as its text.
-fn full(alloc: Global, machine: &Machine, generation: u64) -> Result<Packet, MemoryWanted>
+fn full(alloc: Global, machine: &Machine, generation: u64) -> Result<TextPacket, MemoryWanted>
     requires first_generation { 1 ≤ generation }
     requires last_generation { generation < number_limit }
     ensures { IfOk result (λ p. CarriesFull machine.now generation p) }

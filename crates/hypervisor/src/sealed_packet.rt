@@ -2,14 +2,14 @@
 ghost use Rattle.std.specs.Prelude.{◌≡◌};
 
 use growing_history::{Badge, Pair};
-use pair_book::Packet;
+use pair_book::TextPacket;
 use std::marker::Model;
 
 /// A packet of a text that was sealed, with the badge of a seat that has seen so. Its type keeps that, whatever it crosses: its bytes are
 /// those of the checkpoint that was sealed under its generation and number. Contracts see the packet, and what the badge tells of.
 #[derive(Drop)]
 pub struct SealedPacket<P: Pair> {
-    pub(crate) packet: Packet,
+    pub(crate) packet: TextPacket,
     pub(crate) badge: Badge<P>,
 }
 
@@ -26,7 +26,7 @@ impl<P: Pair> Model for SealedPacket<P> {
 
 impl<P: Pair> SealedPacket<P> {
     /// What was sealed.
-    pub fn packet(&self) -> &Packet
+    pub fn packet(&self) -> &TextPacket
         ensures { result.now ≡ self.now.packet }
     {
         &self.packet

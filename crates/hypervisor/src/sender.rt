@@ -14,7 +14,7 @@ use crate::losses::Loss;
 use crate::sealed_packet::SealedPacket;
 use crate::shared::Shared;
 use growing_history::{Clock, Pair};
-use pair_book::{Ack, Book, Landed, Packet, Refusal};
+use pair_book::{Ack, Book, LandedCount, Refusal, TextPacket};
 use std::sync::{Arc, Wait};
 
 /// Who sends the checkpoints of a pair to its backup, and hands in what is acknowledged. It has no seat: what its calls do is said at the
@@ -25,7 +25,7 @@ pub struct Sender<P: Pair> {
 }
 
 /// As [`Book::next`] says.
-pub(crate) fn next<P: Pair>(book: &mut Book<P>) -> Result<Option<Packet>, Refusal>
+pub(crate) fn next<P: Pair>(book: &mut Book<P>) -> Result<Option<TextPacket>, Refusal>
     ensures among { IfErr result (Contains next_refusals) }
     ensures done { IfOk result (λ packet. packet ≡ next_of book.old.texts) }
     ensures given { OnOk result (book.new ≡ record book.old { texts = given_after (next_of book.old.texts) book.old.texts }) }
@@ -41,7 +41,7 @@ pub(crate) fn next<P: Pair>(book: &mut Book<P>) -> Result<Option<Packet>, Refusa
 }
 
 /// As [`Book::acked`] says.
-fn acked<P: Pair>(book: &mut Book<P>, clock: &Clock<P>, ack: Ack) -> Result<Landed, Refusal>
+fn acked<P: Pair>(book: &mut Book<P>, clock: &Clock<P>, ack: Ack) -> Result<LandedCount, Refusal>
     ensures among { IfErr result (Contains ack_refusals) }
     ensures done { IfOk result (λ landed. (replies.Acked ack.generation ack.number landed.count, book.new.protocol)
         ≡ ack_done book.old.ports.boxes book.old.protocol ack.number) }
@@ -68,8 +68,8 @@ impl<P: Pair> Sender<P> {
     /// # Errors
     ///
     /// [`Refusal::Stopped`] where the primary has stopped; [`Refusal::NotPaired`] where a node is alone. [`Refusal::NoMemory`] where a copy
-    /// of the text is wanted and can't be had, as [`Packet::share`] says.
-    pub fn next<R: Wait>(&mut self, rt: &R) -> Result<Option<Packet>, Refusal>
+    /// of the text is wanted and can't be had, as [`TextPacket::share`] says.
+    pub fn next<R: Wait>(&mut self, rt: &R) -> Result<Option<TextPacket>, Refusal>
         ensures { IfErr result (Contains next_refusals) }
     {
         let shared = &*self.shared;
@@ -103,7 +103,7 @@ impl<P: Pair> Sender<P> {
     /// In this order: [`Refusal::Stopped`] where the primary has stopped; [`Refusal::NotPaired`] where a node is alone; [`Refusal::Stale`]
     /// for another generation; [`Refusal::Gap`] beyond the last commit; [`Refusal::Exhausted`] where the history, or the word, would reach
     /// 2^62. [`Refusal::NoMemory`] where the room for the landings in the history can't be had. Nothing has changed then.
-    pub fn acked<R: Wait>(&mut self, rt: &R, ack: Ack) -> Result<Landed, Refusal>
+    pub fn acked<R: Wait>(&mut self, rt: &R, ack: Ack) -> Result<LandedCount, Refusal>
         ensures { IfErr result (Contains ack_refusals) }
     {
         let shared = &*self.shared;

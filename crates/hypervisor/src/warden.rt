@@ -29,7 +29,7 @@ use backup_image::{Image, ImageError};
 use growing_history::{BackupSeat, Clock, Pair};
 use guest_machine::Shape;
 use memory_wanted::MemoryWanted;
-use pair_book::{Book, Landed, Refusal, members_begin};
+use pair_book::{Book, LandedCount, Refusal, members_begin};
 use std::alloc::Global;
 use std::marker::Model;
 use std::sync::{Arc, Wait};
@@ -77,7 +77,7 @@ fn fail_primary<P: Pair>(book: &mut Book<P>, clock: &Clock<P>) -> Result<(), Ref
 }
 
 /// As [`Book::fail_backup`] says.
-fn fail_backup<P: Pair>(book: &mut Book<P>, clock: &Clock<P>) -> Result<Landed, Refusal>
+fn fail_backup<P: Pair>(book: &mut Book<P>, clock: &Clock<P>) -> Result<LandedCount, Refusal>
     ensures among { IfErr result (Contains (fail_refusals Node.Backup)) }
     ensures done { IfOk result (λ landed. (replies.Alone book.old.protocol.generation landed.count, book.new.protocol)
         ≡ fail_within_done book.old.ports.boxes book.old.protocol) }
@@ -144,7 +144,7 @@ impl<P: Pair> Warden<P> {
     /// its backup has no image yet, and [`Refusal::NotPaired`] for the backup. [`Refusal::Exhausted`] where the history with what is kept,
     /// or the word, would reach 2^62. [`Refusal::NoMemory`] where the backup fails and the room in the history can't be had. Nothing has
     /// changed then.
-    pub fn fail<R: Wait>(&mut self, rt: &R, node: Node) -> Result<Landed, Refusal>
+    pub fn fail<R: Wait>(&mut self, rt: &R, node: Node) -> Result<LandedCount, Refusal>
         ensures landed { IfOk result (λ landed. node ≡ Node.Primary → landed.count ≡ 0) }
         ensures why { IfErr result (Contains (fail_refusals node)) }
     {
@@ -153,7 +153,7 @@ impl<P: Pair> Warden<P> {
             Node::Primary => {
                 let mut held = shared.lock(rt);
                 fail_primary(&mut *held, shared.clock())?;
-                Ok(Landed { count: 0 })
+                Ok(LandedCount { count: 0 })
             }
             Node::Backup => {
                 // The texts that were pending are given back after the lock.

@@ -7,7 +7,7 @@ use Rattle.pair_nodes.specs.Sides.{Primary, Standby as StandbyNode, after_alone,
 use Rattle.script_player.specs.Session.{IsReply, is_played, is_too_long, is_not_kept, Replies}
 use Rattle.node_player.specs.{AtNothing.AtNothing, AtPrimary.{AtPrimary, IsStepsAnswer}, AtStandby.AtStandby, Halves.IsReached}
 use Rattle.node_player.specs.Lines.{Line, boot, order, arrive, piece}
-use Rattle.node_player.specs.Meaning.{Answers, PlaysLine, is_silence, answers, is_bad, finds_no_memory}
+use Rattle.node_player.specs.Meaning.{NodeAnswers, PlaysLine, is_silence, answers, is_bad, finds_no_memory}
 use Rattle.node_player.specs.Nodes.{Node, nothing, primary, standby}
 use Rattle.node_player.specs.declared.orders.Order.TheVariants.{Standby, Step, Cut, Ack, Alone, Protect, GoLive}
 
@@ -82,7 +82,7 @@ at-nothing no_memory other printed new a = subst IsBetweenAt (sym a.1) tt
 
 -- a line, and lines one after another
 answered : (no_memory : List ℕ) (node : Node) (line : Line) (printed : List ℕ) (new : Node) → IsBetweenAt node
-    → Answers no_memory node line printed new → IsBetweenAt new
+    → NodeAnswers no_memory node line printed new → IsBetweenAt new
 answered no_memory nothing line printed new h a = at-nothing no_memory line printed new a
 answered no_memory (primary p) line printed new h a = subst IsBetweenAt (sym a.2) (at-primary no_memory p line printed a.0 h a.1)
 answered no_memory (standby b) line printed new h a = at-standby no_memory b line printed new a

@@ -2,7 +2,7 @@
 use Rattle.std.proofs.Common.{◌≡◌, ◌≤◌, ℕ, Bool, true, false, cond, List, ◌∷◌, ◌++◌, Option, Some, None}
 use Rattle.std.proofs.Common.{IfSome, refl, ap, arith, ◌∙◌, nat_eq, codes}
 use Rattle.std.specs.Option.{option_and_then}
-use Rattle.script_player.specs.{Fields.{text_after, number_of, numbered_by, operand_of, with_second}, Command.IsNumbered}
+use Rattle.script_player.specs.{Fields.{text_after, number_written, numbered_by, operand_of, with_second}, Command.IsNumbered}
 use Rattle.script_player.specs.laws.Fields.{text_after-some, operand_of-spelled, operand_of-read}
 use Rattle.script_player.specs.laws.Options.{and_then_some, map_some, pair_parts}
 use Rattle.script_player.specs.laws.Forms.{Read, same, word, told, one, two, is_numbered, read-spelled}
@@ -44,7 +44,7 @@ has_three front text found h =
     let pair = map_some {B = ℕ × ℕ × ℕ} (λ (two : ℕ × ℕ). (head.0.0, two.0, two.1)) others found head.2 in
     let next = and_then_some with_second (operand_of head.0.1) pair.0 pair.1 in
     let second = operand_of-read head.0.1 next.0.0 next.0.1 next.1 in
-    let last = map_some {B = ℕ × ℕ} (λ n. (next.0.0, n)) (number_of next.0.1) pair.0 next.2 in
+    let last = map_some {B = ℕ × ℕ} (λ n. (next.0.0, n)) (number_written next.0.1) pair.0 next.2 in
     let both = pair_parts {A = ℕ} {B = ℕ} last.2 in (
       read.0,
       second.0,

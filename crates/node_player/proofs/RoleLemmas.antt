@@ -4,7 +4,7 @@ use Rattle.guest_machine.specs.declared.shapes.Shape.{Shape}
 use Rattle.pair_record.specs.declared.event.Refusal.TheVariants.{AlreadyPaired}
 use Rattle.pair_nodes.specs.{PrimaryCalls.booted_primary, Sides.Primary}
 use Rattle.script_player.specs.{Boot.BootLine, Guests.guest_image, Printed.refusal_line}
-use Rattle.node_player.specs.{AtNothing.IsBooted, Lines.{boot, order}, Meaning.{Answers, node_sector}, Printed.sector_answer}
+use Rattle.node_player.specs.{AtNothing.IsBooted, Lines.{boot, order}, Meaning.{NodeAnswers, node_sector}, Printed.sector_answer}
 use Rattle.node_player.specs.Nodes.{Node, nothing, primary, standby, node_of}
 use Rattle.node_player.specs.declared.role.Role.{Role}
 use Rattle.node_player.specs.declared.role.Role.TheVariants as roles
@@ -12,13 +12,13 @@ use Rattle.node_player.specs.declared.orders.Order.TheVariants.{Standby, Sector}
 
 -- a node that is something already doesn't begin
 pub boots-once : (no_memory : List ℕ) (role : Role) (line : BootLine) → (role ≡ roles.Nothing → ⊥)
-    → Answers no_memory (node_of role) (boot line) (refusal_line AlreadyPaired) (node_of role)
+    → NodeAnswers no_memory (node_of role) (boot line) (refusal_line AlreadyPaired) (node_of role)
 boots-once no_memory roles.Nothing line some = absurd (some refl)
 boots-once no_memory (roles.Primary p) line some = (p, (refl, refl), refl)
 boots-once no_memory (roles.Standby b) line some = (refl, refl)
 
 pub waits-once : (no_memory : List ℕ) (role : Role) (pages sectors generation : ℕ) → (role ≡ roles.Nothing → ⊥)
-    → Answers no_memory (node_of role) (order (Standby pages sectors generation)) (refusal_line AlreadyPaired) (node_of role)
+    → NodeAnswers no_memory (node_of role) (order (Standby pages sectors generation)) (refusal_line AlreadyPaired) (node_of role)
 waits-once no_memory roles.Nothing pages sectors generation some = absurd (some refl)
 waits-once no_memory (roles.Primary p) pages sectors generation some = (p, (refl, refl), refl)
 waits-once no_memory (roles.Standby b) pages sectors generation some = (refl, refl)
@@ -32,7 +32,7 @@ booted-so (Err e) line shape image pages sectors bytes is = tt
 
 -- a sector is printed, or a bad line's answer
 pub sector-so : (no_memory : List ℕ) (node : Node) (sector : ℕ) (found : Option (List ℕ)) → found ≡ node_sector node sector
-    → Answers no_memory node (order (Sector sector)) (sector_answer sector found) node
+    → NodeAnswers no_memory node (order (Sector sector)) (sector_answer sector found) node
 sector-so no_memory nothing sector found e = (ap (sector_answer sector) e, refl)
 sector-so no_memory (primary p) sector found e = (p, (ap (sector_answer sector) e, refl), refl)
 sector-so no_memory (standby b) sector found e = (ap (sector_answer sector) e, refl)

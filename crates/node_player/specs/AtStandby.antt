@@ -1,6 +1,6 @@
 -- What a standby answers to each line, and what the node is then: the column of a standby in the table of docs/NODES.md.
 use Rattle.std.specs.Prelude.{◌≡◌, ℕ, ◌+◌, ◌==◌, if◌then◌else◌, List, [], ◌∷◌, length, Option, None, Some, Result, Ok, Err, codes, decimal}
-use Rattle.checkpoint_stream.specs.Answers.{Answers}
+use Rattle.checkpoint_stream.specs.Answers.{FeedAnswers}
 use Rattle.checkpoint_stream.specs.declared.errors.StreamError.{StreamError}
 use Rattle.checkpoint_stream.specs.declared.errors.StreamError.TheVariants.{Malformed, NoMemory}
 use Rattle.pair_record.specs.declared.event.Packet.{Packet}
@@ -52,7 +52,7 @@ piece_answer no_memory b bytes (Err (NoMemory w)) = no_memory
 -- the next bytes of a text come, and leave c
 abbrev pub IsFed : List ℕ → StandbyNode → List ℕ → List ℕ → StandbyNode → Type 0
 IsFed no_memory b bytes printed c =
-    (result : Result ℕ StreamError) × Answers b.reading bytes result c.reading × (c ≡ record b { reading = c.reading })
+    (result : Result ℕ StreamError) × FeedAnswers b.reading bytes result c.reading × (c ≡ record b { reading = c.reading })
     × (printed ≡ piece_answer no_memory c (length bytes) result)
 
 abbrev pub AtStandby : List ℕ → StandbyNode → Line → List ℕ → Node → Type 0

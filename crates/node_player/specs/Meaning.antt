@@ -18,16 +18,16 @@ node_sector (primary p) sector = sector_named p.live.guest.sectors sector
 node_sector (standby b) sector = image_sector b sector
 
 -- A line is answered so. That memory was wanted prints `no_memory`.
-abbrev pub Answers : List ℕ → Node → Line → List ℕ → Node → Type 0
-Answers no_memory nothing line printed new = AtNothing no_memory line printed new
-Answers no_memory (primary p) line printed new = (q : Primary) × AtPrimary no_memory p line printed q × (new ≡ primary q)
-Answers no_memory (standby b) line printed new = AtStandby no_memory b line printed new
+abbrev pub NodeAnswers : List ℕ → Node → Line → List ℕ → Node → Type 0
+NodeAnswers no_memory nothing line printed new = AtNothing no_memory line printed new
+NodeAnswers no_memory (primary p) line printed new = (q : Primary) × AtPrimary no_memory p line printed q × (new ≡ primary q)
+NodeAnswers no_memory (standby b) line printed new = AtStandby no_memory b line printed new
 
 -- How a line is answered that a session keeps, and the node after it.
 pub data PlaysLine (no_memory : List ℕ) (node : Node) (text printed : List ℕ) (next : Node) : Type 0 where
   -- an empty line, or a comment
   is_silence : is_silent text ≡ true → printed ≡ [] → next ≡ node → PlaysLine no_memory node text printed next
-  answers : (line : Line) → is_silent text ≡ false → IsLine text line → Answers no_memory node line printed next
+  answers : (line : Line) → is_silent text ≡ false → IsLine text line → NodeAnswers no_memory node line printed next
       → PlaysLine no_memory node text printed next
   -- it spells no line, and changes nothing
   is_bad : is_silent text ≡ false → ((line : Line) → IsLine text line → ⊥) → printed ≡ bad_answer → next ≡ node

@@ -4,7 +4,7 @@ use Rattle.std.specs.Prelude.{option_map}
 use Rattle.std.specs.Option.{option_map_or, option_and_then}
 use Rattle.std.specs.Str.{bytes_eq}
 use Rattle.script_player.specs.Command.{IsNumbered, HasNumbers}
-use Rattle.script_player.specs.Fields.{text_after, number_of, numbered_by, numbers_by, operand_of, with_second}
+use Rattle.script_player.specs.Fields.{text_after, number_written, numbered_by, numbers_by, operand_of, with_second}
 use Rattle.script_player.specs.Limits.{most_pages, most_sectors}
 use Rattle.node_player.specs.Limits.{last_generation}
 use Rattle.node_player.specs.declared.orders.Order.{Order}
@@ -16,7 +16,7 @@ abbrev pub HasThreeNumbers : List ℕ → ℕ → ℕ → ℕ → List ℕ → T
 HasThreeNumbers front l m n text =
     (first : List ℕ) × (second : List ℕ) × (third : List ℕ)
     × (text ≡ front ++ (first ++ 32 ∷ (second ++ 32 ∷ third)))
-    × (number_of first ≡ Some l) × (number_of second ≡ Some m) × (number_of third ≡ Some n)
+    × (number_written first ≡ Some l) × (number_written second ≡ Some m) × (number_written third ≡ Some n)
 
 -- 1 to 16384 pages, 1 to 32768 sectors, and a generation
 pub record IsShaped (pages sectors generation : ℕ) : Type 0 where

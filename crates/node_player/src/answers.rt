@@ -2,7 +2,7 @@
 
 ghost use Rattle.node_player.specs.Lines.{line_of, order};
 ghost use Rattle.node_player.specs.internal.Limited.{IsLimited, IsLimitedOrder};
-ghost use Rattle.node_player.specs.Meaning.{Answers, PlaysLine};
+ghost use Rattle.node_player.specs.Meaning.{NodeAnswers, PlaysLine};
 ghost use Rattle.node_player.specs.Nodes.{node_of};
 ghost use Rattle.script_player.specs.Session.{IsAnswered};
 
@@ -45,7 +45,7 @@ pub fn play<O: Sink>(alloc: Global, role: &mut Role, line: &[u8], out: &mut O) -
 /// Where a write fails.
 fn answer<O: Sink>(alloc: Global, role: &mut Role, line: &Line, out: &mut O) -> Result<(), Failed>
     requires { IsLimited line.now }
-    ensures { IsAnswered (Answers O.no_memory (node_of role.old) (line_of line.now))
+    ensures { IsAnswered (NodeAnswers O.no_memory (node_of role.old) (line_of line.now))
         (O.written out.old) (O.written out.new) result (node_of role.new) }
 {
     match line {
@@ -63,7 +63,7 @@ fn answer<O: Sink>(alloc: Global, role: &mut Role, line: &Line, out: &mut O) -> 
 /// Where a write fails.
 fn obey<O: Sink>(alloc: Global, role: &mut Role, command: Order, out: &mut O) -> Result<(), Failed>
     requires { IsLimitedOrder command }
-    ensures { IsAnswered (Answers O.no_memory (node_of role.old) (order command))
+    ensures { IsAnswered (NodeAnswers O.no_memory (node_of role.old) (order command))
         (O.written out.old) (O.written out.new) result (node_of role.new) }
 {
     match command {

@@ -4,7 +4,7 @@ ghost use Rattle.std.specs.Prelude.{◌≤◌, IfOk};
 ghost use Rattle.node_player.specs.AtNothing.{IsBooted};
 ghost use Rattle.node_player.specs.Limits.{last_generation};
 ghost use Rattle.node_player.specs.Lines.{boot, order};
-ghost use Rattle.node_player.specs.Meaning.{Answers};
+ghost use Rattle.node_player.specs.Meaning.{NodeAnswers};
 ghost use Rattle.node_player.specs.Nodes.{node_of};
 ghost use Rattle.node_player.specs.declared.orders.Order.TheVariants.{Standby};
 ghost use Rattle.script_player.specs.Boot.{IsInLimits, boot_line};
@@ -27,7 +27,7 @@ use std::alloc::Global;
 /// Where a write fails.
 pub fn boot<O: Sink>(alloc: Global, role: &mut Role, line: &Boot, out: &mut O) -> Result<(), Failed>
     requires { IsInLimits (boot_line line.now) }
-    ensures { IsAnswered (Answers O.no_memory (node_of role.old) (boot (boot_line line.now)))
+    ensures { IsAnswered (NodeAnswers O.no_memory (node_of role.old) (boot (boot_line line.now)))
         (O.written out.old) (O.written out.new) result (node_of role.new) }
 {
     let Role::Nothing = role else {
@@ -73,7 +73,7 @@ pub fn wait<O: Sink>(
 ) -> Result<(), Failed>
     requires first { 1 ≤ generation }
     requires last { generation ≤ last_generation }
-    ensures { IsAnswered (Answers O.no_memory (node_of role.old) (order (Standby shape.pages shape.sectors generation)))
+    ensures { IsAnswered (NodeAnswers O.no_memory (node_of role.old) (order (Standby shape.pages shape.sectors generation)))
         (O.written out.old) (O.written out.new) result (node_of role.new) }
 {
     let Role::Nothing = role else {

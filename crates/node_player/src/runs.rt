@@ -3,7 +3,7 @@
 ghost use Rattle.std.specs.Prelude.{◌≤◌, ◌∷◌, ◌++◌, [], length, codes, decimal};
 ghost use Rattle.node_player.specs.AtPrimary.{AtPrimary};
 ghost use Rattle.node_player.specs.Lines.{arrive, order};
-ghost use Rattle.node_player.specs.Meaning.{Answers};
+ghost use Rattle.node_player.specs.Meaning.{NodeAnswers};
 ghost use Rattle.node_player.specs.Nodes.{node_of};
 ghost use Rattle.node_player.specs.Printed.{acked_lines, alone_lines, steps_lines};
 ghost use Rattle.node_player.specs.declared.orders.Order.TheVariants.{Step, Cut, Text, Ack, Alone, Protect};
@@ -26,7 +26,7 @@ use std::mem;
 ///
 /// Where a write fails.
 pub fn arrive<O: Sink>(role: &mut Role, bytes: &[u8], out: &mut O) -> Result<(), Failed>
-    ensures { IsAnswered (Answers O.no_memory (node_of role.old) (arrive bytes.now))
+    ensures { IsAnswered (NodeAnswers O.no_memory (node_of role.old) (arrive bytes.now))
         (O.written out.old) (O.written out.new) result (node_of role.new) }
 {
     match role {
@@ -45,7 +45,7 @@ pub fn arrive<O: Sink>(role: &mut Role, bytes: &[u8], out: &mut O) -> Result<(),
 ///
 /// Where a write fails.
 pub fn step<O: Sink>(role: &mut Role, count: u64, out: &mut O) -> Result<(), Failed>
-    ensures { IsAnswered (Answers O.no_memory (node_of role.old) (order (Step count)))
+    ensures { IsAnswered (NodeAnswers O.no_memory (node_of role.old) (order (Step count)))
         (O.written out.old) (O.written out.new) result (node_of role.new) }
 {
     match role {
@@ -87,7 +87,7 @@ fn put_steps<O: Sink>(out: &mut O, steps: u64, frames: &[Frame]) -> Result<(), F
 ///
 /// Where a write fails.
 pub fn cut<O: Sink>(role: &mut Role, out: &mut O) -> Result<(), Failed>
-    ensures { IsAnswered (Answers O.no_memory (node_of role.old) (order Cut))
+    ensures { IsAnswered (NodeAnswers O.no_memory (node_of role.old) (order Cut))
         (O.written out.old) (O.written out.new) result (node_of role.new) }
 {
     match role {
@@ -123,7 +123,7 @@ pub fn put_part<O: Sink>(
     count: u64,
     out: &mut O,
 ) -> Result<(), Failed>
-    ensures { IsAnswered (Answers O.no_memory (node_of role.old) (order (Text number from count)))
+    ensures { IsAnswered (NodeAnswers O.no_memory (node_of role.old) (order (Text number from count)))
         (O.written out.old) (O.written out.new) result (node_of role.new) }
 {
     match role {
@@ -156,7 +156,7 @@ fn put_part_of<O: Sink>(
 ///
 /// Where a write fails.
 pub fn acknowledge<O: Sink>(role: &mut Role, ack: Packet, out: &mut O) -> Result<(), Failed>
-    ensures { IsAnswered (Answers O.no_memory (node_of role.old) (order (Ack ack.generation ack.number)))
+    ensures { IsAnswered (NodeAnswers O.no_memory (node_of role.old) (order (Ack ack.generation ack.number)))
         (O.written out.old) (O.written out.new) result (node_of role.new) }
 {
     match role {
@@ -197,7 +197,7 @@ fn put_acked<O: Sink>(out: &mut O, ack: Packet, frames: &[Frame]) -> Result<(), 
 ///
 /// Where a write fails.
 pub fn go_alone<O: Sink>(role: &mut Role, out: &mut O) -> Result<(), Failed>
-    ensures { IsAnswered (Answers O.no_memory (node_of role.old) (order Alone))
+    ensures { IsAnswered (NodeAnswers O.no_memory (node_of role.old) (order Alone))
         (O.written out.old) (O.written out.new) result (node_of role.new) }
 {
     match mem::replace(role, Role::Nothing) {
@@ -253,7 +253,7 @@ fn put_alone<O: Sink>(
 ///
 /// Where a write fails.
 pub fn protect<O: Sink>(role: &mut Role, out: &mut O) -> Result<(), Failed>
-    ensures { IsAnswered (Answers O.no_memory (node_of role.old) (order Protect))
+    ensures { IsAnswered (NodeAnswers O.no_memory (node_of role.old) (order Protect))
         (O.written out.old) (O.written out.new) result (node_of role.new) }
 {
     match mem::replace(role, Role::Nothing) {

@@ -4,7 +4,7 @@ ghost use Rattle.std.specs.Prelude.{◌≡◌, ◌≤◌, ℕ, List, length, opt
 ghost use Rattle.node_player.specs.AtPrimary.{AtPrimary, mode_word};
 ghost use Rattle.node_player.specs.AtStandby.{AtStandby, standby_word};
 ghost use Rattle.node_player.specs.Lines.{order};
-ghost use Rattle.node_player.specs.Meaning.{Answers, node_sector};
+ghost use Rattle.node_player.specs.Meaning.{NodeAnswers, node_sector};
 ghost use Rattle.node_player.specs.Nodes.{node_of, standby as standby_node};
 ghost use Rattle.node_player.specs.declared.orders.Order.TheVariants.{Show, Sector};
 ghost use Rattle.script_player.specs.Printed.{sector_line};
@@ -26,7 +26,7 @@ use script_player::text::Text;
 ///
 /// Where a write fails.
 pub fn show<O: Sink>(role: &Role, out: &mut O) -> Result<(), Failed>
-    ensures { IsAnswered (Answers O.no_memory (node_of role.now) (order Show))
+    ensures { IsAnswered (NodeAnswers O.no_memory (node_of role.now) (order Show))
         (O.written out.old) (O.written out.new) result (node_of role.now) }
 {
     let mut text = Text::new();
@@ -36,7 +36,7 @@ pub fn show<O: Sink>(role: &Role, out: &mut O) -> Result<(), Failed>
 
 /// Writes the state of a node.
 fn write_role(text: &mut Text, role: &Role)
-    ensures { (no_memory : List ℕ) → Answers no_memory (node_of role.now) (order Show) text.new.items (node_of role.now) }
+    ensures { (no_memory : List ℕ) → NodeAnswers no_memory (node_of role.now) (order Show) text.new.items (node_of role.now) }
 {
     match role {
         Role::Nothing => write_state(text, "empty", 0, 0, 0),
@@ -93,7 +93,7 @@ fn standby_word(standby: &StandbyNode) -> &'static str
 ///
 /// Where a write fails.
 pub fn show_sector<O: Sink>(role: &Role, sector: u64, out: &mut O) -> Result<(), Failed>
-    ensures { IsAnswered (Answers O.no_memory (node_of role.now) (order (Sector sector)))
+    ensures { IsAnswered (NodeAnswers O.no_memory (node_of role.now) (order (Sector sector)))
         (O.written out.old) (O.written out.new) result (node_of role.now) }
 {
     match sector_of(role, sector) {

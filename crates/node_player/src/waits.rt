@@ -3,7 +3,7 @@
 ghost use Rattle.std.specs.Prelude.{◌≡◌, ◌∷◌, [], codes, decimal};
 ghost use Rattle.node_player.specs.AtStandby.{IsFed, taken_answer, commit_answer};
 ghost use Rattle.node_player.specs.Lines.{piece, order};
-ghost use Rattle.node_player.specs.Meaning.{Answers};
+ghost use Rattle.node_player.specs.Meaning.{NodeAnswers};
 ghost use Rattle.node_player.specs.Nodes.{node_of};
 ghost use Rattle.node_player.specs.declared.orders.Order.TheVariants as orders;
 ghost use Rattle.pair_nodes.specs.StandbyCalls.{commit_outcome};
@@ -27,7 +27,7 @@ use std::mem;
 ///
 /// Where a write fails.
 pub fn take_piece<O: Sink>(role: &mut Role, bytes: &[u8], out: &mut O) -> Result<(), Failed>
-    ensures { IsAnswered (Answers O.no_memory (node_of role.old) (piece bytes.now))
+    ensures { IsAnswered (NodeAnswers O.no_memory (node_of role.old) (piece bytes.now))
         (O.written out.old) (O.written out.new) result (node_of role.new) }
 {
     match role {
@@ -68,7 +68,7 @@ fn write_taken(text: &mut Text, standby: &StandbyNode, count: usize, bytes: usiz
 ///
 /// Where a write fails.
 pub fn commit<O: Sink>(role: &mut Role, out: &mut O) -> Result<(), Failed>
-    ensures { IsAnswered (Answers O.no_memory (node_of role.old) (order orders.Commit))
+    ensures { IsAnswered (NodeAnswers O.no_memory (node_of role.old) (order orders.Commit))
         (O.written out.old) (O.written out.new) result (node_of role.new) }
 {
     match role {
@@ -100,7 +100,7 @@ fn take_in<O: Sink>(standby: &mut StandbyNode, out: &mut O) -> Result<(), Failed
 ///
 /// Where a write fails.
 pub fn restart<O: Sink>(role: &mut Role, out: &mut O) -> Result<(), Failed>
-    ensures { IsAnswered (Answers O.no_memory (node_of role.old) (order orders.Restart))
+    ensures { IsAnswered (NodeAnswers O.no_memory (node_of role.old) (order orders.Restart))
         (O.written out.old) (O.written out.new) result (node_of role.new) }
 {
     match role {
@@ -119,7 +119,7 @@ pub fn restart<O: Sink>(role: &mut Role, out: &mut O) -> Result<(), Failed>
 ///
 /// Where a write fails.
 pub fn go_live<O: Sink>(role: &mut Role, out: &mut O) -> Result<(), Failed>
-    ensures { IsAnswered (Answers O.no_memory (node_of role.old) (order orders.GoLive))
+    ensures { IsAnswered (NodeAnswers O.no_memory (node_of role.old) (order orders.GoLive))
         (O.written out.old) (O.written out.new) result (node_of role.new) }
 {
     match mem::replace(role, Role::Nothing) {

@@ -6,7 +6,7 @@ use Rattle.std.proofs.lemmas.List.Elements.{All-head, All-tail}
 use Rattle.arrayvec.specs.ArrayVec.{ArrayVec}
 use Rattle.frame_ports.specs.Addresses.{addressed, clients_from, paired_with, targets_of}
 use Rattle.frame_ports.specs.Lands.{has_room, drop_count}
-use Rattle.frame_ports.specs.Numbers.{number_of, is_new, landing, after_landing}
+use Rattle.frame_ports.specs.Numbers.{last_come, is_new, landing, after_landing}
 use Rattle.frame_ports.specs.Ports.{PortsState}
 use Rattle.frame_ports.specs.declared.landing.Landing.TheVariants.{In, Dropped}
 use Rattle.frame_ports.specs.laws.Addresses.{clients_from-range, clients_from-add}
@@ -24,26 +24,26 @@ use Rattle.output_gate.specs.laws.New.{landed_count-new}
 
 -- one frame that came before for each of these clients
 module _ (n : ℕ) (f : ArrayVec ℕ) (p : PortsState) where
-  landed_of-old : (cs : List ℕ) → All (λ c. n ≤ number_of p c) cs → landed_of p cs n f ≡ 0
+  landed_of-old : (cs : List ℕ) → All (λ c. n ≤ last_come p c) cs → landed_of p cs n f ≡ 0
   landed_of-old [] old = refl
   landed_of-old (c ∷ cs) old =
-      let none : puts (landing p c n) ≡ 0 = ap puts (landing-old p c n f (old_from p c n f (All-head (λ c. n ≤ number_of p c) c cs old))) in
+      let none : puts (landing p c n) ≡ 0 = ap puts (landing-old p c n f (old_from p c n f (All-head (λ c. n ≤ last_come p c) c cs old))) in
       omega (
         arith,
         none,
         ap (λ (q : PortsState). landed_of q cs n f) (same_after n f p c cs old),
-        landed_of-old cs (All-tail (λ c. n ≤ number_of p c) c cs old),
+        landed_of-old cs (All-tail (λ c. n ≤ last_come p c) c cs old),
       )
 
-  dropped_of-old : (cs : List ℕ) → All (λ c. n ≤ number_of p c) cs → dropped_of p cs n f ≡ 0
+  dropped_of-old : (cs : List ℕ) → All (λ c. n ≤ last_come p c) cs → dropped_of p cs n f ≡ 0
   dropped_of-old [] old = refl
   dropped_of-old (c ∷ cs) old =
-      let none : drops (landing p c n) ≡ 0 = ap drops (landing-old p c n f (old_from p c n f (All-head (λ c. n ≤ number_of p c) c cs old))) in
+      let none : drops (landing p c n) ≡ 0 = ap drops (landing-old p c n f (old_from p c n f (All-head (λ c. n ≤ last_come p c) c cs old))) in
       omega (
         arith,
         none,
         ap (λ (q : PortsState). dropped_of q cs n f) (same_after n f p c cs old),
-        dropped_of-old cs (All-tail (λ c. n ≤ number_of p c) c cs old),
+        dropped_of-old cs (All-tail (λ c. n ≤ last_come p c) c cs old),
       )
 
 pub landed_count-old : (p : PortsState) (first : ℕ) (fs : List (ArrayVec ℕ)) → AreOld p first fs → landed_count p first fs ≡ 0
@@ -68,38 +68,38 @@ dropped_count-old p first (f ∷ fs) old =
 
 -- the others keep their numbers, where a frame comes for one client
 pub others_stay : (p : PortsState) (c n : ℕ) (f : ArrayVec ℕ) (d : ℕ) → 1 ≤ c → 1 ≤ d → d ≢ c →
-    number_of (after_landing p c n f) d ≡ number_of p d
+    last_come (after_landing p c n f) d ≡ last_come p d
 others_stay p c n f d = number_other p c n f d
 
 -- a later frame is as new as before, once this one has come for these clients
 pub same_new : (p : PortsState) (cs : List ℕ) (n : ℕ) (f : ArrayVec ℕ) (d m : ℕ) → n < m → is_new (landed_for p cs n f) d m ≡ is_new p d m
 same_new p cs n f d m later =
     let q = landed_for p cs n f in
-    elim (cases_lt (number_of p d) m) [
+    elim (cases_lt (last_come p d) m) [
       | inl low ↦
           let below = number_at_most-for n f p cs d (m - 1) (omega (arith, low)) (omega (arith, later)) in
-          lt-ltb (number_of q d) m (omega (arith, below, low)) ∙ sym (lt-ltb (number_of p d) m low)
+          lt-ltb (last_come q d) m (omega (arith, below, low)) ∙ sym (lt-ltb (last_come p d) m low)
       | inr high ↦
           let above = number_rises-for n f p cs d in
-          le-ltb (number_of q d) m (omega (arith, above, high)) ∙ sym (le-ltb (number_of p d) m high)
+          le-ltb (last_come q d) m (omega (arith, above, high)) ∙ sym (le-ltb (last_come p d) m high)
     ]
 
 -- one frame that is new for each of these clients
 module _ (n : ℕ) (f : ArrayVec ℕ) where
-  drop_here : (p : PortsState) (c : ℕ) → number_of p c < n → drops (landing p c n) ≡ (if has_room p.boxes c then 0 else 1)
+  drop_here : (p : PortsState) (c : ℕ) → last_come p c < n → drops (landing p c n) ≡ (if has_room p.boxes c then 0 else 1)
   drop_here p c new = ap drops (landing-new p c n f (new_from p c n f new)) ∙ by_room (has_room p.boxes c)
     where
       by_room : (b : Bool) → drops (if b then In else Dropped) ≡ (if b then 0 else 1)
       by_room true = refl
       by_room false = refl
 
-  dropped_of-new : (p : PortsState) (cs : List ℕ) → AreRising cs → All (λ c. number_of p c < n) cs →
+  dropped_of-new : (p : PortsState) (cs : List ℕ) → AreRising cs → All (λ c. last_come p c < n) cs →
       dropped_of p cs n f ≡ drop_count p.boxes (paired_with cs f)
   dropped_of-new p [] rising new = refl
   dropped_of-new p (c ∷ cs) rising new =
       omega (
         arith,
-        drop_here p c (All-head (λ c. number_of p c < n) c cs new),
+        drop_here p c (All-head (λ c. last_come p c < n) c cs new),
         dropped_of-new (after_landing p c n f) cs rising.2 (new_later n f p c cs rising new),
         ap (λ (l : List (List (ArrayVec ℕ))). drop_count l (paired_with cs f)) (new_here n f p c cs new),
       )
@@ -135,29 +135,29 @@ module _ (p : PortsState) (n : ℕ) (f : ArrayVec ℕ) (below : AreBelow p n) wh
         ∙ landed_for-append n f (landed_for p (clients_from (c - 1) 1 f.items) n f) (clients_from 1 c f.items)
         (clients_from (length p.boxes - c) (c + 1) f.items)
 
-    front_same : number_of front c ≡ number_of p c
+    front_same : last_come front c ≡ last_come p c
     unfolding front
     front_same = number_other-for n f p (clients_from (c - 1) 1 f.items) c low (λ k d inside.
         let at = clients_from-range (c - 1) 1 f.items k d inside in (at.0, λ e. absurd (omega (arith, at.1, e))))
 
-    back_same : number_of (landed_for own (clients_from (length p.boxes - c) (c + 1) f.items) n f) c ≡ number_of own c
+    back_same : last_come (landed_for own (clients_from (length p.boxes - c) (c + 1) f.items) n f) c ≡ last_come own c
     back_same = number_other-for n f own (clients_from (length p.boxes - c) (c + 1) f.items) c low (λ k d inside.
         let at = clients_from-range (length p.boxes - c) (c + 1) f.items k d inside in
         (omega (arith, at.0), λ e. absurd (omega (arith, at.0, e))))
 
-    own_is : number_of own c ≡ (if addressed f.items c then n else number_of p c)
+    own_is : last_come own c ≡ (if addressed f.items c then n else last_come p c)
     unfolding own front
     own_is = by_test (addressed f.items c)
       where
-        by_test : (b : Bool) → number_of (landed_for (landed_for p (clients_from (c - 1) 1 f.items) n f) (if b then c ∷ [] else []) n f) c
-            ≡ (if b then n else number_of p c)
+        by_test : (b : Bool) → last_come (landed_for (landed_for p (clients_from (c - 1) 1 f.items) n f) (if b then c ∷ [] else []) n f) c
+            ≡ (if b then n else last_come p c)
         by_test true = number_is (landed_for p (clients_from (c - 1) 1 f.items) n f) c n f
             (omega (arith, numbers_count-for n f p (clients_from (c - 1) 1 f.items), numbered))
             (omega (arith, front_same, below.below c low high))
         by_test false = front_same
 
-    number-frame : number_of (after_frame p n f) c ≡ (if addressed f.items c then n else number_of p c)
-    number-frame = ap (λ (q : PortsState). number_of q c) in_parts-frame ∙ back_same ∙ own_is
+    number-frame : last_come (after_frame p n f) c ≡ (if addressed f.items c then n else last_come p c)
+    number-frame = ap (λ (q : PortsState). last_come q c) in_parts-frame ∙ back_same ∙ own_is
 
 -- new frames are dropped as if they had no numbers
 pub dropped_count-new : (p : PortsState) (first : ℕ) (fs : List (ArrayVec ℕ)) → AreBelow p first →
@@ -184,7 +184,7 @@ below-after p first (f ∷ fs) below =
 -- and each client's number is that of the last one for it
 pub numbers-after : (p : PortsState) (first : ℕ) (fs : List (ArrayVec ℕ)) (c : ℕ) → AreBelow p first →
     length p.numbers ≡ length p.boxes → 1 ≤ c → c ≤ length p.boxes →
-    number_of (ports_after p first fs) c ≡ last_number c first fs (number_of p c)
+    last_come (ports_after p first fs) c ≡ last_number c first fs (last_come p c)
 numbers-after p first [] c below numbered low high = refl
 numbers-after p first (f ∷ fs) c below numbered low high =
     let count : length (after_frame p first f).boxes ≡ length p.boxes = count-frame p first f below in

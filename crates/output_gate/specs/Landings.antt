@@ -2,7 +2,7 @@
 use Rattle.std.specs.Prelude.{◌≡◌, ℕ, ◌+◌, ◌<◌, ◌≤◌, List, [], ◌∷◌, length, All, if◌then◌else◌}
 use Rattle.arrayvec.specs.ArrayVec.{ArrayVec}
 use Rattle.frame_ports.specs.Addresses.{addressed, clients_of}
-use Rattle.frame_ports.specs.Numbers.{number_of, landing, after_landing}
+use Rattle.frame_ports.specs.Numbers.{last_come, landing, after_landing}
 use Rattle.frame_ports.specs.Ports.{PortsState}
 use Rattle.frame_ports.specs.declared.landing.Landing.{Landing}
 use Rattle.frame_ports.specs.declared.landing.Landing.TheVariants.{In, Dropped, Old}
@@ -71,17 +71,17 @@ AreRising (c ∷ cs) = (1 ≤ c) × All (λ d. c < d) cs × AreRising cs
 
 -- every client's number is below n: frame n came for none of them, nor did one after it
 pub record AreBelow (p : PortsState) (n : ℕ) : Type 0 where
-  pub below : (c : ℕ) → 1 ≤ c → c ≤ length p.boxes → number_of p c < n
+  pub below : (c : ℕ) → 1 ≤ c → c ≤ length p.boxes → last_come p c < n
 
 -- each of these frames came before for each of its clients; the first one's number is given
 abbrev pub AreOld : PortsState → ℕ → List (ArrayVec ℕ) → Type 0
 AreOld p first [] = Unit {0}
-AreOld p first (f ∷ fs) = All (λ c. first ≤ number_of p c) (clients_for p f) × AreOld p (first + 1) fs
+AreOld p first (f ∷ fs) = All (λ c. first ≤ last_come p c) (clients_for p f) × AreOld p (first + 1) fs
 
 -- from the ports p to the ports q no client's number has fallen, and the clients are as many
 pub record HaveRisen (p q : PortsState) : Type 0 where
   pub clients : length q.boxes ≡ length p.boxes
-  pub numbers : (c : ℕ) → 1 ≤ c → c ≤ length p.boxes → number_of p c ≤ number_of q c
+  pub numbers : (c : ℕ) → 1 ≤ c → c ≤ length p.boxes → last_come p c ≤ last_come q c
 
 -- the number of the last of these frames that goes to client c; where none does, the number before
 abbrev pub last_number : ℕ → ℕ → List (ArrayVec ℕ) → ℕ → ℕ

@@ -3,7 +3,7 @@ ghost use Rattle.std.specs.Prelude.{◌≡◌, ◌≢◌, ℕ, ◌+◌, ◌<◌,
 ghost use Rattle.arrayvec.specs.ArrayVec.{ArrayVec};
 ghost use Rattle.frame_ports.specs.Addresses.{targets_of};
 ghost use Rattle.frame_ports.specs.Lands.{lands, put_count, drop_count};
-ghost use Rattle.frame_ports.specs.Numbers.{after_landing, is_new, number_of};
+ghost use Rattle.frame_ports.specs.Numbers.{after_landing, is_new, last_come};
 ghost use Rattle.frame_ports.specs.Ports.{PortsState};
 ghost use Rattle.output_gate.specs.Landings.{clients_for, landed_for, ports_after, landed_count, dropped_count, told_after};
 ghost use Rattle.output_gate.specs.Landings.{AreBelow, AreOld, AreRising, HaveRisen, last_number};
@@ -24,7 +24,7 @@ pub fn new_frames_land()
     ensures rest { (p : PortsState) (first : ℕ) (fs : List (ArrayVec ℕ))
         → ((ports_after p first fs).next ≡ p.next) × ((ports_after p first fs).inboxes ≡ p.inboxes) }
     ensures numbers { (p : PortsState) (first : ℕ) (fs : List (ArrayVec ℕ)) (c : ℕ) → AreBelow p first → length p.numbers ≡ length p.boxes
-        → 1 ≤ c → c ≤ length p.boxes → number_of (ports_after p first fs) c ≡ last_number c first fs (number_of p c) }
+        → 1 ≤ c → c ≤ length p.boxes → last_come (ports_after p first fs) c ≡ last_number c first fs (last_come p c) }
     ensures below { (p : PortsState) (first : ℕ) (fs : List (ArrayVec ℕ)) → AreBelow p first
         → AreBelow (ports_after p first fs) (first + length fs) }
 {}
@@ -47,7 +47,7 @@ pub fn old_frames_stay()
 pub fn one_frame_lands()
     ensures rise { (p : PortsState) (f : ArrayVec ℕ) → AreRising (clients_for p f) }
     ensures others { (p : PortsState) (c n : ℕ) (f : ArrayVec ℕ) (d : ℕ) → 1 ≤ c → 1 ≤ d → d ≢ c
-        → number_of (after_landing p c n f) d ≡ number_of p d }
+        → last_come (after_landing p c n f) d ≡ last_come p d }
     ensures clients { (p : PortsState) (cs : List ℕ) (n : ℕ) (f : ArrayVec ℕ) → length (landed_for p cs n f).boxes ≡ length p.boxes }
     ensures later { (p : PortsState) (cs : List ℕ) (n : ℕ) (f : ArrayVec ℕ) (d m : ℕ) → n < m
         → is_new (landed_for p cs n f) d m ≡ is_new p d m }

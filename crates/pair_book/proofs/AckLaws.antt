@@ -4,14 +4,14 @@ use Rattle.std.proofs.lemmas.List.{length-append}
 use Rattle.pair_history.specs.HistoryState.{HistoryState}
 use Rattle.growing_history.specs.Steps.{What, Added, Sealed, RanAlone, Committed, PrimaryFailed, BackupFailed, WentLive, Protected, Step}
 use Rattle.growing_history.specs.Steps.{Begins, steps_by}
-use Rattle.growing_history.specs.LogState.{LogState, Epoch, start_of, IsAlone, after, Needs, state_after, LegalFrom, Legal, state_at}
+use Rattle.growing_history.specs.LogState.{LogState, Epoch, start_of, IsAlone, after_step, Needs, state_after, LegalFrom, LegalSteps, state_at}
 use Rattle.growing_history.specs.laws.Logs.{numbers, numbers-rise}
 use Rattle.growing_history.specs.laws.Between.{none-first, none-between, same, later}
 use Rattle.pair_book.specs.Standing.{ack_before, last_ack}
 
 -- what one step of another leaves the backup, if no node is alone after it
 ack-step : (s : LogState) (by : ℕ) (w : What) (n : ℕ) → Needs s (record { by = by; what = w }) → by ≢ n → s.backup ≡ n
-    → (after s w).backup ≡ n → (IsAlone (after s w).mode → ⊥) → (IsAlone s.mode → ⊥) × (last_ack (after s w) ≡ last_ack s)
+    → (after_step s w).backup ≡ n → (IsAlone (after_step s w).mode → ⊥) → (IsAlone s.mode → ⊥) × (last_ack (after_step s w) ≡ last_ack s)
 ack-step s by (Added es) n needs other is now paired = (paired, refl)
 ack-step s by (Sealed x zero epoch text) n needs other is now paired =
     let e : Epoch = record { number = 0; entries = []; text = text } in
@@ -33,14 +33,14 @@ ack-steps : (s : LogState) (xs : List Step) (n : ℕ) → LegalFrom s xs → ste
     → (IsAlone (state_after s xs).mode → ⊥) → (IsAlone s.mode → ⊥) × (last_ack (state_after s xs) ≡ last_ack s)
 ack-steps s [] n l others is now paired = (paired, refl)
 ack-steps s (x ∷ xs) n l others is now paired =
-    let t = after s x.what in
+    let t = after_step s x.what in
     let apart = none-first n x xs others in
     let there : t.backup ≡ n = omega (arith, (numbers s x.by x.what l.0).1, (numbers-rise t xs l.1).1, is, now) in
     let rest = ack-steps t xs n l.1 apart.1 there now paired in
     let one = ack-step s x.by x.what n l.0 apart.0 is there rest.0 in
     (one.0, rest.1 ∙ one.1)
 
-pub acks-missed : (h : HistoryState) (old now : List Step) (n : ℕ) (b : Begins old now) (l : Legal h now)
+pub acks-missed : (h : HistoryState) (old now : List Step) (n : ℕ) (b : Begins old now) (l : LegalSteps h now)
     (own : steps_by n now ≡ steps_by n old) → (state_at h old).backup ≡ n → (state_at h now).backup ≡ n
     → (IsAlone (state_at h now).mode → ⊥) → last_ack (state_at h now) ≡ last_ack (state_at h old)
 unfolding state_at

@@ -11,7 +11,7 @@ use Rattle.pair_record.specs.Record.{ports_after_take}
 use Rattle.pair_record.specs.internal.Accords.{Accords}
 use Rattle.pair_record.proofs.ClientAccords.{take_accords, deliver_accords, full_accords}
 use Rattle.growing_history.specs.Steps.{Step, step, Added}
-use Rattle.growing_history.specs.LogState.{client_seat, state_at, after}
+use Rattle.growing_history.specs.LogState.{client_seat, state_at, after_step}
 use Rattle.pair_book.specs.Calls.{IsClientSeat, client_of}
 use Rattle.pair_book.specs.internal.{Tie.IsTied, Waits.AreWaiting}
 use Rattle.pair_book.proofs.{Ties.{added-tied, gained, tied-guests, tied-still}, Waits.delivered-waiting}
@@ -40,7 +40,7 @@ module _ (start : HistoryState) (steps : List Step) (r now : Record) (p q : Port
   took-boxes : length q.boxes ≡ length p.boxes
   took-boxes = ap (λ (x : PortsState). length x.boxes) ports ∙ length-set p.boxes (c - 1) (drop 1 box)
 
-  took-waits : AreWaiting (after (state_at start steps) (Added (took_entry ∷ []))) q
+  took-waits : AreWaiting (after_step (state_at start steps) (Added (took_entry ∷ []))) q
   took-waits =
       tied-still start steps r p q t (Added (took_entry ∷ [])) (tt, tt) (ap (λ (x : PortsState). x.next) ports)
       (ap (λ (x : PortsState). x.inboxes) ports) took-boxes
@@ -80,10 +80,10 @@ module _ (start : HistoryState) (steps : List Step) (r now : Record) (p q : Port
     delivered-boxes : length q.boxes ≡ length p.boxes
     delivered-boxes = ap (λ (x : PortsState). length x.boxes) ports
 
-    delivered-waits : AreWaiting (after (state_at start steps) (Added (delivered ∷ []))) q
+    delivered-waits : AreWaiting (after_step (state_at start steps) (Added (delivered ∷ []))) q
     delivered-waits =
         let high = is_client_of start steps r p by t seat in
-        subst (AreWaiting (after (state_at start steps) (Added (delivered ∷ [])))) (sym ports)
+        subst (AreWaiting (after_step (state_at start steps) (Added (delivered ∷ [])))) (sym ports)
         (delivered-waiting (state_at start steps) p t.waits (tied-guests start steps r p t) d high.0 high.1 bytes)
 
     pub delivered-gained : (n : ℕ) (h : List Entry) → n ≡ length r.journal.history → h ≡ now.journal.history → drop n h ≡ delivered ∷ []
@@ -108,7 +108,7 @@ module _ (start : HistoryState) (steps : List Step) (r now : Record) (p q : Port
     refused-boxes : length q.boxes ≡ length p.boxes
     refused-boxes = ap (λ (x : PortsState). length x.boxes) ports
 
-    refused-waits : AreWaiting (after (state_at start steps) (Added (refused ∷ []))) q
+    refused-waits : AreWaiting (after_step (state_at start steps) (Added (refused ∷ []))) q
     refused-waits =
         tied-still start steps r p q t (Added (refused ∷ [])) (tt, tt) (ap (λ (x : PortsState). x.next) ports)
         (ap (λ (x : PortsState). x.inboxes) ports) refused-boxes

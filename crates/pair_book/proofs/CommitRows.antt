@@ -2,7 +2,7 @@
 use Rattle.std.proofs.Common.{◌≡◌, ℕ, ◌<◌, [], ◌∷◌, length, Bool, true, false, refl, Some, None, arith}
 use Rattle.std.proofs.{lemmas.Bool.{eqb-true, eq-eqb, ltb-false, ltb-true}}
 use Rattle.std.specs.Prelude.{nat_le, nat_lt, not, ◌==◌, ◌&&◌}
-use Rattle.epoch_snapshot.specs.Checkpoints.{Change}
+use Rattle.epoch_snapshot.specs.Checkpoints.{Change, is_old_delta}
 use Rattle.frame_ports.specs.Limits.{number_limit}
 use Rattle.pair_history.specs.HistoryState.{HistoryState}
 use Rattle.pair_record.specs.declared.event.Refusal.TheVariants.{Stopped, Stale, Gap, Exhausted, OldVersion}
@@ -12,7 +12,7 @@ use Rattle.pair_record.proofs.WindowLaws.{is_below}
 use Rattle.growing_history.specs.LogState.{state_at}
 use Rattle.pair_book.specs.Books.{BookState}
 use Rattle.pair_book.specs.Calls.{is_word_full}
-use Rattle.pair_book.specs.Commits.{may_commit, is_old_delta, is_next, is_earlier, commit_why}
+use Rattle.pair_book.specs.Commits.{may_commit, is_next, is_earlier, commit_why}
 use Rattle.pair_book.proofs.Words.{word_room}
 
 -- what is so where nothing refuses the commit, and it isn't an earlier one

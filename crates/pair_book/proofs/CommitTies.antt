@@ -8,17 +8,18 @@ use Rattle.frame_ports.specs.Ports.{PortsState}
 use Rattle.pair_history.specs.Entries.{Entry}
 use Rattle.pair_history.specs.HistoryState.{HistoryState}
 use Rattle.pair_record.specs.Journal.{first_of, rest_of}
-use Rattle.pair_record.specs.Modes.{is_alone, filled}
+use Rattle.pair_record.specs.Modes.{is_alone}
 use Rattle.pair_record.specs.Protocol.{Record, commit_done}
 use Rattle.pair_record.specs.Record.{IsRecord}
 use Rattle.pair_record.specs.internal.Accords.{Accords}
 use Rattle.pair_record.proofs.AccordLaws.{commit_with, some_moves, some_held}
 use Rattle.growing_history.specs.Steps.{Step, step}
-use Rattle.growing_history.specs.LogState.{LogState, Epoch, state_at, entries_of, mode_filled, IsAlone, IsFirstSealed}
+use Rattle.growing_history.specs.LogState.{LogState, Epoch, state_at, entries_of, IsAlone, IsFirstSealed}
 use Rattle.growing_history.specs.laws.Sealed.{first-sealed}
 use Rattle.pair_book.specs.Commits.{commit_of}
 use Rattle.pair_book.specs.internal.Tie.{IsTied}
 use Rattle.pair_book.proofs.Ties.{step-tied, tied-still}
+use Rattle.failover.specs.Modes.{mode_filled}
 
 -- the first of the sealed epochs, and the others
 pub first-entries : (es : List Epoch) → first_of (map (λ (e : Epoch). e.entries) es) ≡ entries_of (take 1 es)
@@ -29,7 +30,7 @@ other-entries : (es : List Epoch) → rest_of (map (λ (e : Epoch). e.entries) e
 other-entries [] = refl
 other-entries (e ∷ es) = refl
 
-same-filled : (m : Mode) → filled m ≡ mode_filled m
+same-filled : (m : Mode) → mode_filled m ≡ mode_filled m
 same-filled Paired = refl
 same-filled Filling = refl
 same-filled Alone = refl
@@ -87,7 +88,7 @@ module _ (start : HistoryState) (steps : List Step) (r now : Record) (p q : Port
       (λ none. committed-history)
       (ap (λ (y : Record). y.journal.sealed) is ∙ ap rest_of t.sealed ∙ other-entries s.sealed)
       (ap (λ (y : Record). y.journal.running) is ∙ t.running)
-      (ap (λ (y : Record). y.mode) is ∙ ap filled t.mode ∙ same-filled s.mode)
+      (ap (λ (y : Record). y.mode) is ∙ ap mode_filled t.mode ∙ same-filled s.mode)
       (ap (λ (y : Record). y.generation) is ∙ t.generation)
       (ap (λ (y : Record). y.window.to_cut) is ∙ t.next)
       (ap (λ (x : PortsState). length x.boxes) ports)

@@ -11,7 +11,7 @@ use Rattle.pair_record.specs.Window.{IsWindow, committed_of, uncommitted_of}
 use Rattle.pair_record.proofs.OwedLaws.{EndOwed}
 use Rattle.pair_record.proofs.OwedLaws as laws
 use Rattle.growing_history.specs.Steps.{What, Committed, Protected, Step, Begins, steps_by}
-use Rattle.growing_history.specs.LogState.{LogState, start_of, after, Needs, state_after, LegalFrom, Legal, state_at}
+use Rattle.growing_history.specs.LogState.{LogState, start_of, after_step, Needs, state_after, LegalFrom, LegalSteps, state_at}
 use Rattle.growing_history.specs.laws.Between.{none-first, none-between, same, later}
 use Rattle.growing_history.specs.laws.Logs.{numbers, numbers-rise}
 use Rattle.pair_book.specs.Standing.{commits_after, commits_from, commits_of, last_four, KeepsLast}
@@ -22,7 +22,7 @@ use Rattle.pair_book.specs.internal.Committed.{AreOwed}
 commits-append : (s : LogState) (xs ys : List Step) (lists : List (List Frame))
     → commits_from s (xs ++ ys) lists ≡ commits_from (state_after s xs) ys (commits_from s xs lists)
 commits-append s [] ys lists = refl
-commits-append s (x ∷ xs) ys lists = commits-append (after s x.what) xs ys (commits_after s x.what lists)
+commits-append s (x ∷ xs) ys lists = commits-append (after_step s x.what) xs ys (commits_after s x.what lists)
 
 pub commits-nil : (h : HistoryState) → commits_of h [] ≡ []
 unfolding commits_of
@@ -35,7 +35,7 @@ commits-snoc h xs x = commits-append (start_of h) xs (x ∷ []) []
 
 -- a backup that is live before a step of another and after it has committed what it had
 commits-step : (s : LogState) (by : ℕ) (w : What) (n : ℕ) (lists : List (List Frame)) → Needs s (record { by = by; what = w }) → by ≢ n
-    → s.backup ≡ n → (after s w).backup ≡ n → commits_after s w lists ≡ lists
+    → s.backup ≡ n → (after_step s w).backup ≡ n → commits_after s w lists ≡ lists
 commits-step s by (Committed x k text) n lists needs other is now = absurd (other (needs.may.0 ∙ is))
 commits-step s by (Protected b) n lists needs other is now = absurd (omega (arith, needs.may.2.1, is, now))
 commits-step s by another n lists needs other is now = refl
@@ -44,12 +44,12 @@ commits-steps : (s : LogState) (xs : List Step) (n : ℕ) (lists : List (List Fr
     → (state_after s xs).backup ≡ n → commits_from s xs lists ≡ lists
 commits-steps s [] n lists l others is now = refl
 commits-steps s (x ∷ xs) n lists l others is now =
-    let t = after s x.what in
+    let t = after_step s x.what in
     let apart = none-first n x xs others in
     let there : t.backup ≡ n = omega (arith, (numbers s x.by x.what l.0).1, (numbers-rise t xs l.1).1, is, now) in
     ap (commits_from t xs) (commits-step s x.by x.what n lists l.0 apart.0 is there) ∙ commits-steps t xs n lists l.1 apart.1 there now
 
-pub commits-missed : (h : HistoryState) (old now : List Step) (n : ℕ) (b : Begins old now) (l : Legal h now)
+pub commits-missed : (h : HistoryState) (old now : List Step) (n : ℕ) (b : Begins old now) (l : LegalSteps h now)
     (own : steps_by n now ≡ steps_by n old) → (state_at h old).backup ≡ n → (state_at h now).backup ≡ n
     → commits_of h now ≡ commits_of h old
 unfolding commits_of state_at

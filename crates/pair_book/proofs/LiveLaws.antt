@@ -3,7 +3,7 @@ use Rattle.std.proofs.Common.{◌≡◌, ℕ, zero, suc, ◌+◌, ◌≤◌, [],
 use Rattle.pair_history.specs.HistoryState.{HistoryState}
 use Rattle.growing_history.specs.Steps.{What, Sealed, WentLive, Protected, step}
 use Rattle.frame_ports.specs.Limits.{max_clients}
-use Rattle.growing_history.specs.LogState.{LogState, state_at, after, start_of, first_runner, first_backup, client_seat, IsNew}
+use Rattle.growing_history.specs.LogState.{LogState, state_at, after_step, start_of, first_runner, first_backup, client_seat, IsNew}
 use Rattle.growing_history.specs.Views.{Keeper}
 use Rattle.growing_history.specs.laws.Logs.{state-nil, state-snoc}
 use Rattle.growing_history.specs.laws.Seats.{seats-last}
@@ -25,7 +25,7 @@ record Leaves (s t : LogState) : Type 0 where
   backup : t.backup ≡ s.backup
   generation : t.generation ≡ s.generation
 
-leaves : (s : LogState) (w : What) → LeavesLive w → Leaves s (after s w)
+leaves : (s : LogState) (w : What) → LeavesLive w → Leaves s (after_step s w)
 leaves s (Sealed g zero epoch text) l = record { runner = refl; backup = refl; generation = refl }
 leaves s (Sealed g (suc n) epoch text) l = record { runner = refl; backup = refl; generation = refl }
 leaves s (WentLive r) l = absurd l

@@ -22,7 +22,7 @@ use Rattle.pair_record.specs.internal.Accords.{Accords}
 use Rattle.pair_record.proofs.{BroughtLaws.{brought_ports, brought_landings}, WindowLaws.is_below}
 use Rattle.pair_record.proofs.LiveAccords.{entries_are, live_accords}
 use Rattle.growing_history.specs.Steps.{Step, step, WentLive, Begins, steps_by}
-use Rattle.growing_history.specs.LogState.{LogState, Epoch, state_at, added, after, IsNew}
+use Rattle.growing_history.specs.LogState.{LogState, Epoch, state_at, added, after_step, IsNew}
 use Rattle.growing_history.specs.Views.{Member}
 use Rattle.pair_book.specs.{Books.BookState, Calls.is_word_full, Failures.first_of, Standing.KeepsFrames}
 use Rattle.pair_book.specs.GoingLive.{is_backup, go_live_rows, go_live_why}
@@ -134,7 +134,7 @@ module _ (start : HistoryState) (steps : List Step) (r now : Record) (p q : Port
         subst (λ (y : Record × PortsState). Accords start y.0 y.1) (λ i. (sym same i, sym (ports ∙ there) i))
         (live_accords start r p (t.accords none) done)
 
-    live-waits : AreWaiting (after s (WentLive runner)) q
+    live-waits : AreWaiting (after_step s (WentLive runner)) q
     live-waits =
         let rest = rest_same-after p first (brought r first kept) in
         tied-still start steps r p q t (WentLive runner) tt (ap (λ (x : PortsState). x.next) ports ∙ rest.0)

@@ -18,16 +18,16 @@ use Rattle.pair_record.proofs.AccordLaws.{kept_now, left_now, kept_is}
 use Rattle.pair_record.proofs.ClientAccords.{lose_in_accords, lose_out_accords}
 pub use Rattle.pair_record.proofs.ClientLaws.{lost_waiting, lost_landed, lost_none}
 use Rattle.growing_history.specs.Steps.{Step, step, Added}
-use Rattle.growing_history.specs.LogState.{line_seat, state_at, after, under_way, AreOwn, AreKnown}
+use Rattle.growing_history.specs.LogState.{line_seat, state_at, after_step, under_way, AreOwn, AreKnown}
 use Rattle.pair_book.specs.internal.{Tie.IsTied, Waits.AreWaiting}
 use Rattle.pair_book.proofs.{Ties.{added-tied, way-is, tied-guests, tied-still}, Waits.lost-waiting}
 
 -- the ports where a frame was there, and where none was
-pub ports_there : (is_there : Bool) (q after p : PortsState) → is_there ≡ true → q ≡ ports_if_lost is_there after p → q ≡ after
-ports_there is_there q after p e is = is ∙ ap (λ t. ports_if_lost t after p) e
+pub ports_there : (is_there : Bool) (q after_step p : PortsState) → is_there ≡ true → q ≡ ports_if_lost is_there after_step p → q ≡ after_step
+ports_there is_there q after_step p e is = is ∙ ap (λ t. ports_if_lost t after_step p) e
 
-pub ports_else : (is_there : Bool) (q after p : PortsState) → is_there ≡ false → q ≡ ports_if_lost is_there after p → q ≡ p
-ports_else is_there q after p e is = is ∙ ap (λ t. ports_if_lost t after p) e
+pub ports_else : (is_there : Bool) (q after_step p : PortsState) → is_there ≡ false → q ≡ ports_if_lost is_there after_step p → q ≡ p
+ports_else is_there q after_step p e is = is ∙ ap (λ t. ports_if_lost t after_step p) e
 
 -- moves that can be made where the frame of that number doesn't wait don't take it in
 none-takes : (n first end : ℕ) (ws : List Waiting) (ms : List Move) → AreRising first end ws → AllCan ws ms → frame_numbered n ws ≡ None
@@ -74,9 +74,9 @@ module _ (start : HistoryState) (steps : List Step) (r now : Record) (p q : Port
     lost-in-known none =
         (subst (NoneTakes n) (way-is start steps r p t) (taken-by-none start r p (t.accords none) c place n f low high there), tt)
 
-    lost-in-waits : AreWaiting (after (state_at start steps) (Added (DropIn n ∷ []))) q
+    lost-in-waits : AreWaiting (after_step (state_at start steps) (Added (DropIn n ∷ []))) q
     lost-in-waits =
-        subst (AreWaiting (after (state_at start steps) (Added (DropIn n ∷ [])))) (sym ports)
+        subst (AreWaiting (after_step (state_at start steps) (Added (DropIn n ∷ [])))) (sym ports)
         (lost-waiting (state_at start steps) p t.waits (tied-guests start steps r p t) c low high place n f there)
 
     pub lost-in-tied : IsTied start (steps ++ step line_seat (Added (DropIn n ∷ [])) ∷ []) now q
@@ -106,7 +106,7 @@ module _ (start : HistoryState) (steps : List Step) (r now : Record) (p q : Port
         → AreKnown (under_way (state_at start steps)) (state_at start steps).history line_seat (DropOut c place ∷ [])
     lost-out-known none = (λ (e : line_seat ≡ 0). absurd (cc e), tt)
 
-    lost-out-waits : AreWaiting (after (state_at start steps) (Added (DropOut c place ∷ []))) q
+    lost-out-waits : AreWaiting (after_step (state_at start steps) (Added (DropOut c place ∷ []))) q
     lost-out-waits =
         tied-still start steps r p q t (Added (DropOut c place ∷ [])) (tt, tt) (ap (λ (x : PortsState). x.next) ports)
         (ap (λ (x : PortsState). x.inboxes) ports) lost-out-boxes

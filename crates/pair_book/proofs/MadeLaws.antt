@@ -5,7 +5,7 @@ use Rattle.pair_history.specs.Entries.{Frame, Entry}
 use Rattle.pair_history.specs.HistoryState.{HistoryState, at, sent_along}
 use Rattle.pair_history.specs.Failures.{all_land}
 use Rattle.growing_history.specs.Steps.{Sealed, RanAlone, Step}
-use Rattle.growing_history.specs.LogState.{LogState, Epoch, Legal, state_at, sealed_state, entries_of, and_all_land, after}
+use Rattle.growing_history.specs.LogState.{LogState, Epoch, LegalSteps, state_at, sealed_state, entries_of, and_all_land, after_step}
 use Rattle.growing_history.specs.SealedTexts.{IsMade, epoch_sent}
 use Rattle.pair_history.specs.laws.Landings.{landings-unmoved}
 use Rattle.pair_history.specs.laws.Histories.{at-append}
@@ -33,7 +33,7 @@ landed-alike h epoch =
 
 -- where an epoch is sealed, the sealed state is the one after it: before a full checkpoint nothing is sealed
 pub sealed-alike : (s : LogState) (g n : ℕ) (epoch : List Entry) (text : List ℕ) → (n ≡ 0 → s.sealed ≡ [])
-    → Alike (sealed_state (after s (Sealed g n epoch text))) (at (sealed_state s) epoch)
+    → Alike (sealed_state (after_step s (Sealed g n epoch text))) (at (sealed_state s) epoch)
 sealed-alike s g zero epoch text empty =
     subst (λ (es : List Epoch). Alike (at s.history (and_all_land s.history epoch)) (at (at s.history (entries_of es)) epoch))
     (sym (empty refl)) (landed-alike s.history epoch)
@@ -45,7 +45,7 @@ sealed-alike s g (suc n) epoch text empty =
 
 -- where it enters the history and nothing is sealed, too
 pub lone-alike : (s : LogState) (epoch : List Entry) → s.sealed ≡ []
-    → Alike (sealed_state (after s (RanAlone epoch))) (at (sealed_state s) epoch)
+    → Alike (sealed_state (after_step s (RanAlone epoch))) (at (sealed_state s) epoch)
 lone-alike s epoch none =
     subst
     (λ (es : List Epoch).
@@ -58,7 +58,7 @@ carried-sent s zero epoch fs is = refl
 carried-sent s (suc n) epoch fs is = is
 
 -- before number 0 nothing is sealed
-pub none-before : (start : HistoryState) (steps : List Step) → Legal start steps → (n : ℕ) → n ≡ (state_at start steps).next → n ≡ 0
+pub none-before : (start : HistoryState) (steps : List Step) → LegalSteps start steps → (n : ℕ) → n ≡ (state_at start steps).next → n ≡ 0
     → (state_at start steps).sealed ≡ []
 none-before start steps legal n next none =
     let count = (are-sealed start steps legal).count in
@@ -74,7 +74,7 @@ sealed-made start s c epoch arrivals ran fs is empty sent made =
     λ none.
     let far = sealed_state s in
     makes-same (Reads start) c.number c.text (carried c.number fs) (epoch_sent s c.number epoch) far.guest far.guest
-    (at far (epoch_of s.handed arrivals ran)).guest (sealed_state (after s (Sealed c.generation c.number epoch c.text))).guest
+    (at far (epoch_of s.handed arrivals ran)).guest (sealed_state (after_step s (Sealed c.generation c.number epoch c.text))).guest
     (carried-sent s c.number epoch fs (sent none ∙ ap (sent_along far) (sym is))) refl
     (ap (λ (es : List Entry). (at far es).guest) (sym is) ∙ sym (sealed-alike s c.generation c.number epoch c.text empty).0)
     (made none)

@@ -20,7 +20,7 @@ use Rattle.pair_record.specs.EpochActs.{guest_epoch, behind}
 use Rattle.pair_record.specs.Protocol.{Record}
 use Rattle.pair_record.specs.internal.Accords.{AreInboxes}
 use Rattle.growing_history.specs.Steps.{Step, step, Begins}
-use Rattle.growing_history.specs.LogState.{LogState, state_at, sealed_state, entries_of, after, IsEpoch, IsAlone}
+use Rattle.growing_history.specs.LogState.{LogState, state_at, sealed_state, entries_of, after_step, IsEpoch, IsAlone}
 use Rattle.growing_history.specs.Views.{Member}
 use Rattle.growing_history.specs.laws.Logs.{state-snoc}
 use Rattle.growing_history.specs.laws.Sealed.{are-sealed}
@@ -31,8 +31,8 @@ use Rattle.pair_book.specs.declared.prepared.Prepared.TheVariants as prepared
 use Rattle.pair_book.specs.declared.runner.Kind.{Kind}
 use Rattle.pair_book.specs.declared.runner.Kind.TheVariants.{Nothing, Delta, Full}
 use Rattle.pair_book.specs.Handing.{Handing, handing, firsts, arrivals_of, HandsBehind, HandsNext}
-use Rattle.pair_book.specs.Settled.{epoch_of, runner_state, just_settled, numbers_of, Follows, Runs, RunsOn}
-use Rattle.pair_book.specs.Submitting.{protocol_ended, ports_ended, ended, wanted_kind, told_as, told}
+use Rattle.pair_book.specs.Settled.{epoch_of, runner_outside, settled_runner, numbers_of, Follows, Runs, RunsOn}
+use Rattle.pair_book.specs.Submitting.{protocol_ended, ports_ended, ended, wanted_kind, told_as, epoch_told}
 use Rattle.pair_book.specs.internal.{Tie.IsTied, Waits.{waits_at_last}}
 use Rattle.pair_book.proofs.EpochWords.{epoch-is, behind-arrivals, own-arrived, own-guests}
 use Rattle.pair_book.proofs.MadeLaws.{Alike, sealed-alike, lone-alike, none-before}
@@ -140,9 +140,9 @@ ended-ports Full fs r p = (refl, length-lands p.boxes (targets_of (length p.boxe
 -- THE EPOCH HAS ENDED, of a runner that has seen all
 module _ (start : HistoryState) (b : BookState) (t : IsTied start b.steps b.protocol b.ports) (by : ℕ) (what : Prepared)
     (free : Free start b by what) (arrivals ran : ℕ) (fs : List Frame) (now : Record) (q : PortsState) (xs : List (ℕ × Frame))
-    (log : List Step) (grown : log ≡ b.steps ++ step by (told b arrivals ran what) ∷ []) (tied : IsTied start log now q)
+    (log : List Step) (grown : log ≡ b.steps ++ step by (epoch_told b arrivals ran what) ∷ []) (tied : IsTied start log now q)
     (hands : HandsNext (ended b arrivals ran fs) (handing now q xs)) (held : List (ℕ × Frame)) (guest settled : Guest)
-    (was : Runs start (record { number = by; steps = b.steps }) (runner_state arrivals ran held guest fs settled)) where
+    (was : Runs start (record { number = by; steps = b.steps }) (runner_outside arrivals ran held guest fs settled)) where
   abbrev s : LogState
   s = state_at start b.steps
 
@@ -156,13 +156,13 @@ module _ (start : HistoryState) (b : BookState) (t : IsTied start b.steps b.prot
   own = epoch_of s.handed arrivals ran
 
   abbrev u : LogState
-  u = after s (told b arrivals ran what)
+  u = after_step s (epoch_told b arrivals ran what)
 
   live : s.runner ≡ by
   live = sym free.live
 
   there : state_at start log ≡ u
-  there = ap (state_at start) grown ∙ state-snoc start b.steps (step by (told b arrivals ran what))
+  there = ap (state_at start) grown ∙ state-snoc start b.steps (step by (epoch_told b arrivals ran what))
 
   same : epoch ≡ own
   same = epoch-is s.handed arrivals ran r.journal.running t.running
@@ -171,7 +171,7 @@ module _ (start : HistoryState) (b : BookState) (t : IsTied start b.steps b.prot
   alike : Alike (sealed_state u) (at (sealed_state s) epoch)
   alike = by_what what free.suit
     where
-      by_what : (x : Prepared) → Suits r x → Alike (sealed_state (after s (told_as x epoch))) (at (sealed_state s) epoch)
+      by_what : (x : Prepared) → Suits r x → Alike (sealed_state (after_step s (told_as x epoch))) (at (sealed_state s) epoch)
       by_what prepared.Nothing suit =
           lone-alike s epoch
           ((are-sealed start b.steps t.legal).alone (subst IsAlone (sym (alone-mode r.mode suit) ∙ t.mode) tt))
@@ -181,7 +181,7 @@ module _ (start : HistoryState) (b : BookState) (t : IsTied start b.steps b.prot
   stays : (u.runner ≡ s.runner) × (u.marked ≡ s.marked)
   stays = by_what what
     where
-      by_what : (x : Prepared) → ((after s (told_as x epoch)).runner ≡ s.runner) × ((after s (told_as x epoch)).marked ≡ s.marked)
+      by_what : (x : Prepared) → ((after_step s (told_as x epoch)).runner ≡ s.runner) × ((after_step s (told_as x epoch)).marked ≡ s.marked)
       by_what prepared.Nothing = (refl, refl)
       by_what (prepared.Checkpoint c) = (refl, refl)
 
@@ -278,7 +278,7 @@ module _ (start : HistoryState) (b : BookState) (t : IsTied start b.steps b.prot
       (firsts-wait 1 b.ports.next later (rising-without_numbers 1 b.ports.next came ws rises) (length b.ports.boxes) 1
       (length b.ports.boxes) b.ports.inboxes are (omega arith) (omega arith)))
 
-  follows : s.marked ≡ 0 → Follows u (just_settled guest (held ++ xs))
+  follows : s.marked ≡ 0 → Follows u (settled_runner guest (held ++ xs))
   follows none =
       let f = was.follows live none in
       let here : guest ≡ (sealed_state u).guest =
@@ -292,14 +292,14 @@ module _ (start : HistoryState) (b : BookState) (t : IsTied start b.steps b.prot
         outbox = refl;
       }
 
-  pub runs-then : Runs start (record { number = by; steps = log }) (just_settled guest (held ++ xs))
+  pub runs-then : Runs start (record { number = by; steps = log }) (settled_runner guest (held ++ xs))
   runs-then = record {
     born = let is = ap (λ (v : LogState). v.runner) there in omega (arith, is, stays.0, live);
     came = λ alive. omega arith;
     holds = λ alive. sym handed-now;
     follows = λ alive none.
         let is = ap (λ (v : LogState). v.marked) there in
-        subst (λ (v : LogState). Follows v (just_settled guest (held ++ xs))) (sym there) (follows (omega (arith, is, stays.1, none)));
+        subst (λ (v : LogState). Follows v (settled_runner guest (held ++ xs))) (sym there) (follows (omega (arith, is, stays.1, none)));
   }
 
 -- WHERE ITS SEAT LOOKS FIRST
@@ -317,12 +317,12 @@ module _ (start : HistoryState) (b : BookState) (t : IsTied start b.steps b.prot
     → ((at (sealed_state (state_at start b.steps)) epoch).guest ≡ (at (sealed_state (state_at start seat.steps)) epoch).guest)
     × (sent_along (sealed_state (state_at start b.steps)) epoch ≡ sent_along (sealed_state (state_at start seat.steps)) epoch))
     (now : Record) (q : PortsState) (xs : List (ℕ × Frame))
-    (tied : IsTied start (b.steps ++ step seat.number (told b arrivals ran what) ∷ []) now q)
+    (tied : IsTied start (b.steps ++ step seat.number (epoch_told b arrivals ran what) ∷ []) now q)
     (hands : HandsNext (ended b arrivals ran fs) (handing now q xs))
-    (sees : seat' ≡ record { number = seat.number; steps = b.steps ++ step seat.number (told b arrivals ran what) ∷ [] }) where
+    (sees : seat' ≡ record { number = seat.number; steps = b.steps ++ step seat.number (epoch_told b arrivals ran what) ∷ [] }) where
   pub runs-submitted : RunsOn start seat seat' arrivals ran fs xs
   runs-submitted = λ held guest settled runs.
-      subst (λ (m : Member). Runs start m (just_settled guest (held ++ xs))) (sym sees)
+      subst (λ (m : Member). Runs start m (settled_runner guest (held ++ xs))) (sym sees)
       (runs-then start b t seat.number what free arrivals ran fs now q xs
-      (b.steps ++ step seat.number (told b arrivals ran what) ∷ []) refl tied hands held guest settled
-      (runs-on start seat b.steps (runner_state arrivals ran held guest fs settled) begins t.legal runs handed-law frames-law epoch-law))
+      (b.steps ++ step seat.number (epoch_told b arrivals ran what) ∷ []) refl tied hands held guest settled
+      (runs-on start seat b.steps (runner_outside arrivals ran held guest fs settled) begins t.legal runs handed-law frames-law epoch-law))

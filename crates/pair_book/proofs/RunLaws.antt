@@ -11,7 +11,7 @@ use Rattle.pair_history.specs.HistoryState.{HistoryState, at, sent_along, frame_
 use Rattle.pair_history.specs.Failures.{rising, arrived_numbers, go_live_entries}
 use Rattle.pair_history.specs.Landings.{landings}
 use Rattle.growing_history.specs.Steps.{Step, step, Begins, WentLive}
-use Rattle.growing_history.specs.LogState.{LogState, Legal, state_at, sealed_state, under_way, after, IsEpoch, IsAlone, is_filling}
+use Rattle.growing_history.specs.LogState.{LogState, LegalSteps, state_at, sealed_state, under_way, after_step, IsEpoch, IsAlone}
 use Rattle.growing_history.specs.SealedTexts.{Makes}
 use Rattle.growing_history.specs.Views.{Member}
 use Rattle.pair_history.specs.laws.Landings.{landings-unmoved}
@@ -22,13 +22,14 @@ use Rattle.pair_book.specs.declared.failures.Ack.{Ack}
 use Rattle.pair_book.specs.declared.prepared.Prepared.TheVariants as prepared
 use Rattle.pair_book.specs.Made.{Reads, carried, IsPrepared}
 use Rattle.pair_book.specs.Packets.{PacketState}
-use Rattle.pair_book.specs.Settled.{IsSettled, RunnerState, numbers_of, just_settled, Follows, Runs, epoch_of}
+use Rattle.pair_book.specs.Settled.{EpochFollows, RunnerOutside, numbers_of, settled_runner, Follows, Runs, epoch_of}
 use Rattle.pair_book.specs.Standing.{Stands}
 use Rattle.pair_book.proofs.EpochWords.{own-epoch}
+use Rattle.failover.specs.Modes.{is_filling}
 
 -- IT LOOKS, and has made no step since
-module _ (start : HistoryState) (seat : Member) (now : List Step) (x : RunnerState) (begins : Begins seat.steps now)
-    (legal : Legal start now) (runs : Runs start seat x)
+module _ (start : HistoryState) (seat : Member) (now : List Step) (x : RunnerOutside) (begins : Begins seat.steps now)
+    (legal : LegalSteps start now) (runs : Runs start seat x)
     (handed-law : (state_at start seat.steps).runner ≡ seat.number → (state_at start now).runner ≡ seat.number
     → (state_at start now).handed ≡ (state_at start seat.steps).handed)
     (frames-law : (state_at start seat.steps).runner ≡ seat.number → (state_at start now).runner ≡ seat.number
@@ -95,8 +96,8 @@ module _ (start : HistoryState) (seat : Member) (now : List Step) (x : RunnerSta
   }
 
 -- WHAT IT BRINGS was settled, and a text of its machine over the guest at which it was settled is what it has to prepare
-module _ (start : HistoryState) (seat : Member) (x : RunnerState) (runs : Runs start seat x) where
-  pub runs-settled : IsSettled start seat x.arrivals x.steps x.outbox
+module _ (start : HistoryState) (seat : Member) (x : RunnerOutside) (runs : Runs start seat x) where
+  pub runs-settled : EpochFollows start seat x.arrivals x.steps x.outbox
   runs-settled = record {
     born = runs.born;
     held = runs.came;
@@ -127,30 +128,30 @@ live-guest h way =
 pub runs-live : (start : HistoryState) (steps : List Step) (number : ℕ) → number ≡ (state_at start steps).backup
     → (state_at start steps).mode ≡ Stopped → (image : Guest) (last : Option Ack) (sent first : ℕ) (kept : List (List Frame))
     → Stands start (record { number = number; steps = steps }) image last sent first kept → (runner : ℕ) (seat : Member)
-    → seat ≡ record { number = runner; steps = steps ++ step 0 (WentLive runner) ∷ [] } → Runs start seat (just_settled image [])
+    → seat ≡ record { number = runner; steps = steps ++ step 0 (WentLive runner) ∷ [] } → Runs start seat (settled_runner image [])
 runs-live start steps number mine mode image last sent first kept stood runner seat is =
     let s = state_at start steps in
-    let u = after s (WentLive runner) in
+    let u = after_step s (WentLive runner) in
     let now = steps ++ step 0 (WentLive runner) ∷ [] in
     let there : state_at start now ≡ u = state-snoc start steps (step 0 (WentLive runner)) in
     let pair : IsAlone s.mode → ⊥ = subst (λ m. IsAlone m → ⊥) (sym mode) (λ a. a) in
     let filled : is_filling s.mode ≡ false = ap is_filling mode in
     let guest : s.marked ≡ 0 → image ≡ u.history.guest =
     λ none. stood.guest (mine, pair) none filled ∙ sym (live-guest s.history (under_way s)) in
-    let follows : s.marked ≡ 0 → Follows u (just_settled image []) =
+    let follows : s.marked ≡ 0 → Follows u (settled_runner image []) =
     λ none. record {
       held = All-nil (λ (p : ℕ × Frame). frame_numbered p.0 (sealed_state u).waiting ≡ Some p.1);
       settled = guest none;
       guest = guest none;
       outbox = refl;
     } in
-    let all : Runs start (record { number = runner; steps = now }) (just_settled image []) =
+    let all : Runs start (record { number = runner; steps = now }) (settled_runner image []) =
     record {
       born = let same = ap (λ (v : LogState). v.runner) there in omega (arith, same);
       came = λ live. omega arith;
       holds = λ live. sym (ap (λ (v : LogState). drop 0 v.handed) there);
       follows = λ live none.
-          subst (λ (v : LogState). Follows v (just_settled image [])) (sym there)
+          subst (λ (v : LogState). Follows v (settled_runner image [])) (sym there)
           (follows (let same = ap (λ (v : LogState). v.marked) there in omega (arith, same, none)));
     } in
-    subst (λ (m : Member). Runs start m (just_settled image [])) (sym is) all
+    subst (λ (m : Member). Runs start m (settled_runner image [])) (sym is) all

@@ -26,18 +26,19 @@ use Rattle.pair_record.specs.declared.event.Reply.TheVariants as replies
 use Rattle.pair_record.specs.Protocol.{Record, again_done, commit_done}
 use Rattle.pair_record.specs.Record.{IsRecord, SuitsMode}
 use Rattle.growing_history.specs.Steps.{Step, step, Begins, steps_by}
-use Rattle.growing_history.specs.LogState.{LogState, Epoch, state_at, entries_of, after, mark_of, is_filling, IsAlone, IsFirstSealed}
+use Rattle.growing_history.specs.LogState.{LogState, Epoch, state_at, entries_of, after_step, mark_of, IsAlone, IsFirstSealed}
 use Rattle.growing_history.specs.SealedTexts.{Makes, MakeInTurn}
 use Rattle.growing_history.specs.Views.{Member}
 use Rattle.growing_history.specs.laws.Logs.{state-snoc}
 use Rattle.growing_history.specs.laws.Sealed.{first-sealed}
 use Rattle.growing_history.specs.laws.Prefixes.{steps_by-own}
 use Rattle.pair_book.specs.declared.failures.Ack.{Ack}
-use Rattle.pair_book.specs.Commits.{commit_of, kept_with, sent_with, first_with, WasRead, StandsBy, StandsAgain}
+use Rattle.pair_book.specs.Commits.{commit_of, kept_then, sent_then, first_then, WasRead, StandsAfterNext, StandsAfterAgain}
 use Rattle.pair_book.specs.Made.{IsShape, Reads}
 use Rattle.pair_book.specs.Standing.{first_sent, commits_of, KeepsLast, ack_before, last_ack, IsLive, Stands}
 use Rattle.pair_book.specs.internal.{Committed.KeepsCommitted, Tie.IsTied}
 use Rattle.pair_book.proofs.{CommittedLaws.commits-snoc, CommitTies.not-alone, StandingLaws.{stands-on, keeps-more}}
+use Rattle.failover.specs.Modes.{is_filling}
 
 -- WHAT WAS READ is what the sealed text reads back as
 
@@ -106,9 +107,9 @@ number_of (replies.Committed g n) = n
 number_of (replies.Again g n) = n
 number_of other = 0
 
-pub answered : (ack : Ack) (r after : Record) → (replies.Committed ack.generation ack.number, after) ≡ commit_done r → ack ≡ next_ack r
+pub answered : (ack : Ack) (r after_step : Record) → (replies.Committed ack.generation ack.number, after_step) ≡ commit_done r → ack ≡ next_ack r
 unfolding generation_of number_of
-answered ack r after e = λ i. record { generation = generation_of (e i).0; number = number_of (e i).0 }
+answered ack r after_step e = λ i. record { generation = generation_of (e i).0; number = number_of (e i).0 }
 
 -- A COMMIT, of a backup that has seen all
 module _ (start : HistoryState) (steps : List Step) (r : Record) (p : PortsState) (t : IsTied start steps r p)
@@ -127,7 +128,7 @@ module _ (start : HistoryState) (steps : List Step) (r : Record) (p : PortsState
   abbrev seat' : Member
   seat' = record { number = by; steps = now }
 
-  there : state_at start now ≡ after s (commit_of c)
+  there : state_at start now ≡ after_step s (commit_of c)
   there = state-snoc start steps (step by (commit_of c))
 
   live : IsLive start (record { number = by; steps = steps })
@@ -171,13 +172,13 @@ module _ (start : HistoryState) (steps : List Step) (r : Record) (p : PortsState
       (record { last = refl; count = refl; number = refl })
 
   kept-now : (state_at start now).marked ≡ 0
-      → KeepsLast (commits_of start now) (sent_with c sent) (first_with c sent kept) (kept_with c kept)
+      → KeepsLast (commits_of start now) (sent_then c sent) (first_then c sent kept) (kept_then c kept)
   kept-now none =
       let x = reads none in
       let full = c.number == 0 in
       let base = before (stood.frames.keeps live (unmarked none).0) full refl in
       let carries : c.frames ≡ first_sent s = ap (λ (d : Change). d.frames) (sym (same x)) ∙ x.carries in
-      subst (λ (l : List (List Frame)). KeepsLast l (sent_with c sent) (first_with c sent kept) (kept_with c kept))
+      subst (λ (l : List (List Frame)). KeepsLast l (sent_then c sent) (first_then c sent kept) (kept_then c kept))
       (ap (λ (fs : List Frame). commits_of start steps ++ fs ∷ []) carries
       ∙ sym (commits-snoc start steps (step by (commit_of c))))
       (keeps-more (commits_of start steps) (cond full [] kept) (cond full 0 sent)
@@ -198,7 +199,7 @@ module _ (start : HistoryState) (steps : List Step) (r : Record) (p : PortsState
       stood.committed live ∙ (λ i. ack_before (own i) (place i))
 
   pub stands-then : (ack : Ack) → ack ≡ next_ack r
-      → Stands start seat' (image_of c image) (Some ack) (sent_with c sent) (first_with c sent kept) (kept_with c kept)
+      → Stands start seat' (image_of c image) (Some ack) (sent_then c sent) (first_then c sent kept) (kept_then c kept)
   stands-then ack is = record {
     frames = record {
       born = let same = ap (λ (u : LogState). u.backup) there in omega (arith, mine, same);
@@ -215,16 +216,16 @@ module _ (start : HistoryState) (steps : List Step) (r : Record) (p : PortsState
 -- WHERE IT LOOKS FIRST, and its own steps are those before and this one
 
 pub stands-by : (start : HistoryState) (steps : List Step) (r : Record) (p : PortsState) → IsTied start steps r p
-    → KeepsCommitted start steps r p → IsRecord r → (seat after : Member) (c : Change) → seat.number ≡ (state_at start steps).backup
+    → KeepsCommitted start steps r p → IsRecord r → (seat after_step : Member) (c : Change) → seat.number ≡ (state_at start steps).backup
     → is_alone r.mode ≡ false → c.generation ≡ r.generation → c.number ≡ r.window.to_commit → r.window.to_commit < r.window.to_cut
     → ((state_at start steps).marked ≡ 0
     → MakeInTurn (Reads start) (state_at start steps).history [] (state_at start steps).sealed)
     → Begins seat.steps steps
     → steps_by seat.number (steps ++ step seat.number (commit_of c) ∷ [])
     ≡ steps_by seat.number seat.steps ++ step seat.number (commit_of c) ∷ []
-    → after ≡ record { number = seat.number; steps = steps ++ step seat.number (commit_of c) ∷ [] }
-    → (ack : Ack) → ack ≡ next_ack r → StandsBy start c ack seat after
-stands-by start steps r p t keeps k seat after c mine pair generation number some turn begins own is ack ack-is read shape image last sent
+    → after_step ≡ record { number = seat.number; steps = steps ++ step seat.number (commit_of c) ∷ [] }
+    → (ack : Ack) → ack ≡ next_ack r → StandsAfterNext start c ack seat after_step
+stands-by start steps r p t keeps k seat after_step c mine pair generation number some turn begins own is ack ack-is read shape image last sent
     first kept stood =
     let x = step seat.number (commit_of c) in
     let none : steps_by seat.number steps ≡ steps_by seat.number seat.steps =
@@ -234,7 +235,7 @@ stands-by start steps r p t keeps k seat after c mine pair generation number som
       stood-before start steps r p t keeps k seat.number c mine pair number some turn read shape image last sent first kept stood-on
           generation,
       subst
-          (λ (m : Member). Stands start m (image_of c image) (Some ack) (sent_with c sent) (first_with c sent kept) (kept_with c kept))
+          (λ (m : Member). Stands start m (image_of c image) (Some ack) (sent_then c sent) (first_then c sent kept) (kept_then c kept))
           (sym is)
           (stands-then start steps r p t keeps k seat.number c mine pair number some turn read shape image last sent first kept stood-on
           ack ack-is),
@@ -251,16 +252,16 @@ last-number g (suc n) low =
 abbrev before_ack : Record → Ack
 before_ack r = record { generation = r.generation; number = r.window.to_commit - 1 }
 
-pub answered-again : (ack : Ack) (r after : Record) → (replies.Again ack.generation ack.number, after) ≡ again_done r
+pub answered-again : (ack : Ack) (r after_step : Record) → (replies.Again ack.generation ack.number, after_step) ≡ again_done r
     → ack ≡ before_ack r
 unfolding generation_of number_of
-answered-again ack r after e = λ i. record { generation = generation_of (e i).0; number = number_of (e i).0 }
+answered-again ack r after_step e = λ i. record { generation = generation_of (e i).0; number = number_of (e i).0 }
 
 pub stands-again : (start : HistoryState) (steps : List Step) (r : Record) (p : PortsState) → IsTied start steps r p → IsRecord r
-    → (seat after : Member) → seat.number ≡ (state_at start steps).backup → is_alone r.mode ≡ false → 0 < r.window.to_commit
+    → (seat after_step : Member) → seat.number ≡ (state_at start steps).backup → is_alone r.mode ≡ false → 0 < r.window.to_commit
     → Begins seat.steps steps → steps_by seat.number steps ≡ steps_by seat.number seat.steps
-    → after ≡ record { number = seat.number; steps = steps } → (ack : Ack) → ack ≡ before_ack r → StandsAgain start ack seat after
-stands-again start steps r p t k seat after mine pair low begins own is ack ack-is image last sent first kept stood =
+    → after_step ≡ record { number = seat.number; steps = steps } → (ack : Ack) → ack ≡ before_ack r → StandsAfterAgain start ack seat after_step
+stands-again start steps r p t k seat after_step mine pair low begins own is ack ack-is image last sent first kept stood =
     let s = state_at start steps in
     let on = stands-on start seat steps image last sent first kept begins t.legal own stood in
     let live : IsLive start (record { number = seat.number; steps = steps }) =

@@ -15,7 +15,7 @@ use Rattle.pair_record.specs.Protocol.{Record}
 use Rattle.pair_record.specs.Record.{IsRecord, AreNumbered, SuitsMode}
 use Rattle.pair_record.proofs.KeptLists.{all_frames-append}
 use Rattle.growing_history.specs.Steps.{Step, Begins, steps_by}
-use Rattle.growing_history.specs.LogState.{LogState, Epoch, Legal, state_at, IsAlone, is_filling}
+use Rattle.growing_history.specs.LogState.{LogState, Epoch, LegalSteps, state_at, IsAlone}
 use Rattle.growing_history.specs.Views.{Member}
 use Rattle.growing_history.specs.laws.Logs.{live-rise, marks-rise}
 use Rattle.growing_history.proofs.MissedByBackup.{backup-misses-nothing}
@@ -23,10 +23,11 @@ use Rattle.pair_book.specs.declared.failures.Ack.{Ack}
 use Rattle.pair_book.specs.Standing.{commits_of, last_four, KeepsLast, KeepsFrames, ack_before, Stands}
 use Rattle.pair_book.specs.internal.{Committed.KeepsCommitted, Tie.IsTied}
 use Rattle.pair_book.proofs.{AckLaws.acks-missed, CommittedLaws.{commits-missed, owed_brings}, CommitTies.not-alone}
+use Rattle.failover.specs.Modes.{is_filling}
 
 -- IT LOOKS, and has made no step since
 module _ (start : HistoryState) (seat : Member) (now : List Step) (sent first : ℕ) (kept : List (List Frame))
-    (b : Begins seat.steps now) (l : Legal start now) (own : steps_by seat.number now ≡ steps_by seat.number seat.steps)
+    (b : Begins seat.steps now) (l : LegalSteps start now) (own : steps_by seat.number now ≡ steps_by seat.number seat.steps)
     (h : KeepsFrames start seat sent first kept) where
   abbrev looked : Member
   looked = record { number = seat.number; steps = now }
@@ -57,7 +58,7 @@ module _ (start : HistoryState) (seat : Member) (now : List Step) (sent first : 
 
 -- its image, too
 module _ (start : HistoryState) (seat : Member) (now : List Step) (image : Guest) (last : Option Ack) (sent first : ℕ)
-    (kept : List (List Frame)) (b : Begins seat.steps now) (l : Legal start now)
+    (kept : List (List Frame)) (b : Begins seat.steps now) (l : LegalSteps start now)
     (own : steps_by seat.number now ≡ steps_by seat.number seat.steps) (h : Stands start seat image last sent first kept) where
   abbrev s : LogState
   s = state_at start seat.steps
@@ -99,7 +100,7 @@ has-image start steps r p t k stopped number mine image last sent first kept sto
     some-ack s.generation (s.next - length s.sealed) last (omega (arith, low, long, k.sealed, t.next)) (stood.committed (mine, pair))
 
 -- and unless a commit is marked it was the guest of the history when it looked last
-pub seen-guest : (start : HistoryState) (seat : Member) (now : List Step) → Begins seat.steps now → Legal start now
+pub seen-guest : (start : HistoryState) (seat : Member) (now : List Step) → Begins seat.steps now → LegalSteps start now
     → steps_by seat.number now ≡ steps_by seat.number seat.steps → (state_at start now).mode ≡ Stopped
     → seat.number ≡ (state_at start now).backup → (image : Guest) (last : Option Ack) (sent first : ℕ) (kept : List (List Frame))
     → Stands start seat image last sent first kept → (state_at start seat.steps).marked ≡ 0

@@ -8,13 +8,13 @@ use Rattle.pair_record.specs.Protocol.{Record}
 use Rattle.pair_record.specs.Record.{start_record}
 use Rattle.pair_record.specs.internal.Accords.{Accords}
 use Rattle.pair_record.proofs.AccordLaws.{start_accords}
-use Rattle.growing_history.specs.LogState.{LogState, Legal, start_of}
+use Rattle.growing_history.specs.LogState.{LogState, LegalSteps, start_of}
 use Rattle.growing_history.specs.laws.Logs.{state-nil, history-nil}
 use Rattle.pair_book.specs.Opening.{IsBoot}
 use Rattle.pair_book.specs.internal.{Tie.{IsTied, sealed_entries}, Waits.AreWaiting}
 
-pub nothing-legal : (h : HistoryState) → Legal h []
-unfolding Legal
+pub nothing-legal : (h : HistoryState) → LegalSteps h []
+unfolding LegalSteps
 nothing-legal h = tt
 
 start-waiting : (pages sectors : ℕ) (image : List ℕ) (clients : ℕ)

@@ -5,14 +5,15 @@ use Rattle.guest_machine.specs.Guest.{Guest}
 use Rattle.pair_history.specs.Entries.{Frame}
 use Rattle.pair_history.specs.HistoryState.{HistoryState, sent_along, frame_numbered}
 use Rattle.growing_history.specs.Steps.{Protected, Step, step}
-use Rattle.growing_history.specs.LogState.{LogState, start_of, first_runner, first_backup, sealed_state, state_at, after, is_filling}
+use Rattle.growing_history.specs.LogState.{LogState, start_of, first_runner, first_backup, sealed_state, state_at, after_step}
 use Rattle.growing_history.specs.laws.Logs.{state-nil, state-snoc}
-use Rattle.pair_book.specs.Settled.{IsSettled, epoch_of, just_settled, Follows, Runs}
+use Rattle.pair_book.specs.Settled.{EpochFollows, epoch_of, settled_runner, Follows, Runs}
 use Rattle.pair_book.specs.Standing.{KeepsLast, KeepsFrames, ack_before, last_ack, first_ack, Stands}
 use Rattle.pair_book.proofs.CommittedLaws.{commits-nil, commits-snoc}
+use Rattle.failover.specs.Modes.{is_filling}
 
 -- an epoch of no arrival and no step, along which the guest sends nothing
-pub start-settled : (start : HistoryState) → IsSettled start (record { number = first_runner; steps = [] }) 0 0 []
+pub start-settled : (start : HistoryState) → EpochFollows start (record { number = first_runner; steps = [] }) 0 0 []
 start-settled start =
     let there = state-nil start in
     let runner = ap (λ (u : LogState). u.runner) there in
@@ -34,10 +35,10 @@ start-frames start =
 
 -- THE WHOLE of what they begin with
 
-pub start-runs : (start : HistoryState) → Runs start (record { number = first_runner; steps = [] }) (just_settled start.guest [])
+pub start-runs : (start : HistoryState) → Runs start (record { number = first_runner; steps = [] }) (settled_runner start.guest [])
 start-runs start =
     let there = state-nil start in
-    let first : Follows (start_of start) (just_settled start.guest []) =
+    let first : Follows (start_of start) (settled_runner start.guest []) =
     record {
       held = All-nil (λ (p : ℕ × Frame). frame_numbered p.0 start.waiting ≡ Some p.1);
       settled = refl;
@@ -48,7 +49,7 @@ start-runs start =
       born = let runner = ap (λ (u : LogState). u.runner) there in omega (arith, runner);
       came = λ live. omega arith;
       holds = λ live. sym (ap (λ (u : LogState). drop 0 u.handed) there);
-      follows = λ live none. subst (λ (u : LogState). Follows u (just_settled start.guest [])) (sym there) first;
+      follows = λ live none. subst (λ (u : LogState). Follows u (settled_runner start.guest [])) (sym there) first;
     }
 
 pub start-stands : (start : HistoryState)
@@ -66,7 +67,7 @@ pub new-stands : (start : HistoryState) (steps : List Step) (b : ℕ) (image : G
     → Stands start (record { number = b; steps = steps ++ step 0 (Protected b) ∷ [] }) image None 0 1 []
 new-stands start steps b image =
     let there = state-snoc start steps (step 0 (Protected b)) in
-    let u = after (state_at start steps) (Protected b) in
+    let u = after_step (state_at start steps) (Protected b) in
     let none : 0 ≡ 0 - length u.sealed = omega arith in
     let filling = ap (λ (v : LogState). is_filling v.mode) there in
     record {

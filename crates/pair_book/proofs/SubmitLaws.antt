@@ -14,13 +14,13 @@ use Rattle.frame_ports.specs.laws.Lands.{length-lands}
 use Rattle.pair_history.specs.laws.Waits.{arrived_numbers-arrivals}
 use Rattle.pair_record.specs.EpochActs.{guest_epoch, behind}
 use Rattle.pair_record.specs.Journal.{joined}
-use Rattle.pair_record.specs.Modes.{is_alone, is_stopped, is_filling}
+use Rattle.pair_record.specs.Modes.{is_alone, is_stopped}
 use Rattle.pair_record.specs.Protocol.{Record}
 use Rattle.pair_record.specs.Record.{IsRecord, IsLone, SuitsMode, AreNumbered}
 use Rattle.pair_record.proofs.{ProtectLaws.none_yet, RecordLaws.{passed, generation_is}, WindowLaws.is_below}
 use Rattle.pair_record.specs.{Limits.most_pending, Window.with_cut}
 use Rattle.growing_history.specs.Steps.{Step, step, Begins, Sealed, RanAlone}
-use Rattle.growing_history.specs.LogState.{LogState, state_at, sealed_state, Legal, IsEpoch, HasBackup, IsAlone, MaySeal}
+use Rattle.growing_history.specs.LogState.{LogState, state_at, sealed_state, LegalSteps, IsEpoch, HasBackup, IsAlone, MaySeal}
 use Rattle.growing_history.specs.Views.{Member}
 use Rattle.growing_history.specs.SealedTexts.{IsMade}
 use Rattle.growing_history.specs.laws.Logs.{live-rise, marks-rise}
@@ -32,8 +32,8 @@ use Rattle.pair_book.specs.declared.runner.Kind.TheVariants.{Nothing, Delta, Ful
 use Rattle.pair_book.specs.{Books.BookState, Made.{Reads, carried, MakesEpoch, IsPrepared}, Packets.PacketState}
 use Rattle.pair_book.specs.Handing.{Handing, handing, handed_next, handed_behind, HandsNext}
 use Rattle.pair_book.specs.Running.{kind_wanted}
-use Rattle.pair_book.specs.Settled.{IsSettled, epoch_of}
-use Rattle.pair_book.specs.Submitting.{protocol_ended, ports_ended, texts_ended, ended_as, ended, wanted_kind, told_as, told}
+use Rattle.pair_book.specs.Settled.{EpochFollows, epoch_of}
+use Rattle.pair_book.specs.Submitting.{protocol_ended, ports_ended, texts_ended, ended_as, ended, wanted_kind, told_as, epoch_told}
 use Rattle.pair_book.specs.Submitting.{submit_why, is_checkpoint, is_other}
 use Rattle.pair_book.specs.internal.{Committed.KeepsCommitted, Texts.HasTexts, Tie.IsTied}
 use Rattle.pair_book.specs.internal.Told.{last_of, entered_there, sealed_there, epoch_there, found}
@@ -45,10 +45,11 @@ use Rattle.pair_book.proofs.TextLaws.{texts-after, texts-once-sealed, as-many}
 use Rattle.pair_book.proofs.MadeLaws.{none-before, sealed-made}
 use Rattle.pair_book.proofs.SubmitTies.{sealed-tied, alone-tied, full-tied}
 use Rattle.pair_book.proofs.Words.{word_room}
+use Rattle.failover.specs.Modes.{is_filling}
 
 -- WHAT THE LIVE RUNNER KNEW when its seat last looked
 module _ (start : HistoryState) (seat : Member) (log : List Step) (arrivals ran : ℕ) (fs : List Frame)
-    (settled : IsSettled start seat arrivals ran fs) (begins : Begins seat.steps log) (legal : Legal start log)
+    (settled : EpochFollows start seat arrivals ran fs) (begins : Begins seat.steps log) (legal : LegalSteps start log)
     (live : seat.number ≡ (state_at start log).runner)
     (handed-law : (state_at start seat.steps).runner ≡ seat.number → (state_at start log).runner ≡ seat.number
     → (state_at start log).handed ≡ (state_at start seat.steps).handed)
@@ -410,7 +411,7 @@ module _ (start : HistoryState) (b : BookState) (t : IsTied start b.steps b.prot
   done (prepared.Checkpoint c) suit makes =
       checkpoint-done c suit makes (which r.mode r.window.to_cut suit.0 free.runs paired-some)
 
-  pub found-is : found what now.journal before arrivals ran ≡ told b arrivals ran what
+  pub found-is : found what now.journal before arrivals ran ≡ epoch_told b arrivals ran what
   found-is = ap (told_as what) (done what free.suit made).found
 
   pub submitted-tied : IsTied start (b.steps ++ step by (found what now.journal before arrivals ran) ∷ []) now q
@@ -459,14 +460,14 @@ pub record Submitted (start : HistoryState) (b : BookState) (by : ℕ) (what : P
   pub texts : HasTexts start (b.steps ++ step by (found what now.journal (length b.protocol.journal.history) came ran) ∷ []) now
       (texts_ended what b.texts).packets
   pub few : length b.texts.packets < most_pending
-  pub told-is : found what now.journal (length b.protocol.journal.history) came ran ≡ told b arrivals ran what
+  pub told-is : found what now.journal (length b.protocol.journal.history) came ran ≡ epoch_told b arrivals ran what
   pub hands : HandsNext (ended b arrivals ran fs) (handing now q xs)
   pub word : length b.steps < number_limit
 
 module _ (start : HistoryState) (b : BookState) (t : IsTied start b.steps b.protocol b.ports)
     (keeps : KeepsCommitted start b.steps b.protocol b.ports) (had : HasTexts start b.steps b.protocol b.texts.packets)
     (k : IsRecord b.protocol) (numbered : AreNumbered b.protocol b.ports) (seat : Member) (what : Prepared)
-    (arrivals ran came : ℕ) (fs : List Frame) (settled : IsSettled start seat arrivals ran fs)
+    (arrivals ran came : ℕ) (fs : List Frame) (settled : EpochFollows start seat arrivals ran fs)
     (made : IsPrepared start seat arrivals ran fs what)
     (why : submit_why start b seat.number what ran fs ≡ None) (begins : Begins seat.steps b.steps)
     (handed-law : (state_at start seat.steps).runner ≡ seat.number → (state_at start b.steps).runner ≡ seat.number

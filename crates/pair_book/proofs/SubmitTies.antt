@@ -2,7 +2,7 @@
 use Rattle.std.proofs.Common.{◌≡◌, ℕ, suc, ◌+◌, List, [], ◌∷◌, ◌++◌, length, map, drop, replicate, refl, sym, ap, ◌∙◌}
 use Rattle.std.proofs.Common.{subst, append_assoc, arith}
 use Rattle.std.proofs.lemmas.List.{append-nil, map-append}
-use Rattle.frame_ports.specs.{Addresses.targets_of, Numbers.marked, Ports.PortsState}
+use Rattle.frame_ports.specs.{Addresses.targets_of, Numbers.renumbered, Ports.PortsState}
 use Rattle.output_gate.specs.Epochs.{frames_of}
 use Rattle.pair_history.specs.Entries.{Frame, Entry, Arrive}
 use Rattle.pair_history.specs.HistoryState.{HistoryState, at, sent_along}
@@ -200,7 +200,7 @@ module _ (start : HistoryState) (steps : List Step) (r : Record) (p : PortsState
 
     -- WITH A FULL CHECKPOINT an empty epoch is sealed behind it
     module _ (text : List ℕ) (to : r.window.to_cut ≡ 0) (filling : MaySeal 0 r.mode) (now : Record) (q : PortsState)
-        (xs : List (ℕ × Frame)) (is : handing now q xs ≡ handed_next (handing (full_done entered-record).1 (marked landed-ports) [])) where
+        (xs : List (ℕ × Frame)) (is : handing now q xs ≡ handed_next (handing (full_done entered-record).1 (renumbered landed-ports) [])) where
       abbrev filled : LogState
       filled = record s {
         history = at s.history (and_all_land s.history epoch);
@@ -209,15 +209,15 @@ module _ (start : HistoryState) (steps : List Step) (r : Record) (p : PortsState
         handed = rest;
       }
 
-      filled-waits : AreWaiting filled (marked landed-ports)
+      filled-waits : AreWaiting filled (renumbered landed-ports)
       filled-waits =
-          still-waiting s filled p (marked landed-ports) t.waits
+          still-waiting s filled p (renumbered landed-ports) t.waits
           (entered-wait s filled epoch rest none-sealed refl guests (handed-parts s.handed arrivals ran r.journal.running t.running) refl refl)
           refl refl long
 
-      given-full : Hands start filled filled.history (full_done entered-record).1 now (marked landed-ports) q
+      given-full : Hands start filled filled.history (full_done entered-record).1 now (renumbered landed-ports) q
       given-full =
-          hands start filled filled.history (full_done entered-record).1 now (marked landed-ports) q xs filled-waits tt
+          hands start filled filled.history (full_done entered-record).1 now (renumbered landed-ports) q xs filled-waits tt
           (rest-is s.handed arrivals ran r.journal.running t.running) refl (as-many (and_all_land s.history epoch) ∙ sym long) is
 
       pub full-tied : IsTied start (steps ++ step by (Sealed r.generation 0 epoch text) ∷ []) now q

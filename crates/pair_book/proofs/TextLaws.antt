@@ -12,7 +12,7 @@ use Rattle.pair_record.specs.Record.{IsRecord}
 use Rattle.pair_record.specs.Window.{with_cut, with_commit, with_acknowledged, first_after, committed_count}
 use Rattle.pair_record.proofs.WindowLaws.{test_below, is_from, is_below}
 use Rattle.growing_history.specs.Steps.{What, Added, Sealed, Committed, Step, step}
-use Rattle.growing_history.specs.LogState.{LogState, Epoch, state_at, after}
+use Rattle.growing_history.specs.LogState.{LogState, Epoch, state_at, after_step}
 use Rattle.growing_history.specs.laws.Logs.{state-snoc}
 use Rattle.pair_book.specs.Packets.{PacketState}
 use Rattle.pair_book.specs.Texts.{WasSealed, ArePending, above}
@@ -169,7 +169,7 @@ module _ (start : HistoryState) (steps : List Step) (r now : Record) (ps : List 
           omega (arith, is, k.window.committed)
 
   -- A STEP that seals nothing, and commits nothing
-  pub texts-longer : (by : ℕ) (what : What) → (after s what).sealed ≡ s.sealed → HasTexts start (steps ++ step by what ∷ []) r ps
+  pub texts-longer : (by : ℕ) (what : What) → (after_step s what).sealed ≡ s.sealed → HasTexts start (steps ++ step by what ∷ []) r ps
   texts-longer by what same = record {
     pending = pending-longer steps (step by what ∷ []) r.generation r.window.to_acknowledge ps h.pending;
     count = h.count;
@@ -229,7 +229,7 @@ module _ (start : HistoryState) (steps : List Step) (r now : Record) (ps : List 
       }
     where
       by_number : (n : ℕ) → p.number ≡ n
-          → sealed_texts (after s (Sealed p.generation n epoch p.text)).sealed
+          → sealed_texts (after_step s (Sealed p.generation n epoch p.text)).sealed
           ≡ texts_of (drop (r.window.to_commit - r.window.to_acknowledge) ps) ++ p.text ∷ []
       by_number zero e =
           let none : ps ≡ [] = nil_from_length ps (omega (arith, e, number, h.count)) in
@@ -242,7 +242,7 @@ module _ (start : HistoryState) (steps : List Step) (r now : Record) (ps : List 
 
 -- A STEP that seals nothing and commits nothing, of a record whose generation and window stay
 pub texts-after : (start : HistoryState) (steps steps' : List Step) (r now : Record) (ps : List PacketState) → HasTexts start steps r ps
-    → (by : ℕ) (what : What) → (after (state_at start steps) what).sealed ≡ (state_at start steps).sealed
+    → (by : ℕ) (what : What) → (after_step (state_at start steps) what).sealed ≡ (state_at start steps).sealed
     → steps' ≡ steps ++ step by what ∷ [] → now.generation ≡ r.generation → now.window ≡ r.window → HasTexts start steps' now ps
 texts-after start steps steps' r now ps h by what same is generation window =
     subst (λ (l : List Step). HasTexts start l now ps) (sym is)

@@ -12,8 +12,8 @@ use Rattle.pair_record.specs.Protocol.{Record}
 use Rattle.pair_record.specs.internal.Accords.{Accords, kept_moves}
 use Rattle.pair_record.proofs.AccordLaws.{kept_is}
 use Rattle.growing_history.specs.Steps.{What, Step, step, Added}
-use Rattle.growing_history.specs.LogState.{LogState, Epoch, Legal, Needs, MayStep, DropsKnown, AreOwn, AreKnown}
-use Rattle.growing_history.specs.LogState.{state_at, history_of, entries_of, under_way, added, after}
+use Rattle.growing_history.specs.LogState.{LogState, Epoch, LegalSteps, Needs, MayStep, DropsKnown, AreOwn, AreKnown}
+use Rattle.growing_history.specs.LogState.{state_at, history_of, entries_of, under_way, added, after_step}
 use Rattle.growing_history.specs.laws.Logs.{goes-on, state-snoc, history-snoc, history-stands, marked}
 use Rattle.pair_history.specs.laws.Histories.{legal-second}
 use Rattle.growing_history.specs.Waiting.{IsStill}
@@ -48,23 +48,23 @@ tied-guests start steps r p t = legal-guests start steps t.legal
 
 -- a step that neither delivers nor drops by the line, nor ends an epoch, leaves what waits
 pub tied-still : (start : HistoryState) (steps : List Step) (r : Record) (p q : PortsState) → IsTied start steps r p → (w : What)
-    → IsStill w → q.next ≡ p.next → q.inboxes ≡ p.inboxes → length q.boxes ≡ length p.boxes → AreWaiting (after (state_at start steps) w) q
+    → IsStill w → q.next ≡ p.next → q.inboxes ≡ p.inboxes → length q.boxes ≡ length p.boxes → AreWaiting (after_step (state_at start steps) w) q
 tied-still start steps r p q t w still next inboxes boxes =
     let s = state_at start steps in
-    still-waiting s (after s w) p q t.waits (still-wait s w (tied-guests start steps r p t) still) next inboxes boxes
+    still-waiting s (after_step s w) p q t.waits (still-wait s w (tied-guests start steps r p t) still) next inboxes boxes
 
 -- A STEP, whatever it is: its entries are what the history has gained, and what it leaves is what the record has
 module _ (start : HistoryState) (steps : List Step) (r now : Record) (p q : PortsState) (t : IsTied start steps r p) (by : ℕ) (what : What)
     (may : MayStep (state_at start steps) by what)
     (known : (state_at start steps).marked ≡ 0 → DropsKnown (state_at start steps) by what)
     (grown : (state_at start steps).marked ≡ 0 → now.journal.history ≡ r.journal.history ++ added (state_at start steps) what)
-    (sealed : now.journal.sealed ≡ sealed_entries (after (state_at start steps) what))
-    (running : now.journal.running ≡ map Arrive (after (state_at start steps) what).handed)
-    (mode : now.mode ≡ (after (state_at start steps) what).mode)
-    (generation : now.generation ≡ (after (state_at start steps) what).generation)
-    (next : now.window.to_cut ≡ (after (state_at start steps) what).next)
+    (sealed : now.journal.sealed ≡ sealed_entries (after_step (state_at start steps) what))
+    (running : now.journal.running ≡ map Arrive (after_step (state_at start steps) what).handed)
+    (mode : now.mode ≡ (after_step (state_at start steps) what).mode)
+    (generation : now.generation ≡ (after_step (state_at start steps) what).generation)
+    (next : now.window.to_cut ≡ (after_step (state_at start steps) what).next)
     (boxes : length q.boxes ≡ length p.boxes)
-    (waits : AreWaiting (after (state_at start steps) what) q)
+    (waits : AreWaiting (after_step (state_at start steps) what) q)
     (accords : (state_at start steps).marked ≡ 0 → Accords start now q) where
   abbrev s : LogState
   s = state_at start steps
@@ -72,11 +72,11 @@ module _ (start : HistoryState) (steps : List Step) (r now : Record) (p q : Port
   abbrev x : Step
   x = step by what
 
-  way-now : kept_entries now.journal ≡ under_way (after s what)
+  way-now : kept_entries now.journal ≡ under_way (after_step s what)
   way-now =
       ap (λ l. joined l ++ now.journal.running) sealed
-      ∙ ap (λ l. l ++ now.journal.running) (sealed-joined (after s what).sealed)
-      ∙ ap (λ l. entries_of (after s what).sealed ++ l) running
+      ∙ ap (λ l. l ++ now.journal.running) (sealed-joined (after_step s what).sealed)
+      ∙ ap (λ l. entries_of (after_step s what).sealed ++ l) running
 
   history-now : s.marked ≡ 0 → now.journal.history ≡ history_of start steps ++ added s what
   history-now none = grown none ∙ ap (λ l. l ++ added s what) (t.history none)
@@ -87,19 +87,19 @@ module _ (start : HistoryState) (steps : List Step) (r now : Record) (p q : Port
     known = known;
     lawful = λ none.
         let same : now.journal.history ++ kept_entries now.journal
-        ≡ history_of start steps ++ (added s what ++ under_way (after s what)) =
-        (λ i. history-now none i ++ way-now i) ∙ append_assoc (history_of start steps) (added s what) (under_way (after s what)) in
+        ≡ history_of start steps ++ (added s what ++ under_way (after_step s what)) =
+        (λ i. history-now none i ++ way-now i) ∙ append_assoc (history_of start steps) (added s what) (under_way (after_step s what)) in
         let all = subst (history.Legal start) same (all-legal start now q (accords none)) in
-        subst (λ h. history.Legal h (added s what ++ under_way (after s what))) (sym (history-stands start steps))
-        (legal-second start (history_of start steps) (added s what ++ under_way (after s what)) all);
+        subst (λ h. history.Legal h (added s what ++ under_way (after_step s what))) (sym (history-stands start steps))
+        (legal-second start (history_of start steps) (added s what ++ under_way (after_step s what)) all);
   }
 
-  pub step-legal : Legal start (steps ++ x ∷ [])
+  pub step-legal : LegalSteps start (steps ++ x ∷ [])
   step-legal = goes-on start steps x t.legal needs
 
   pub step-tied : IsTied start (steps ++ x ∷ []) now q
   step-tied =
-      let there : state_at start (steps ++ x ∷ []) ≡ after s what = state-snoc start steps x in
+      let there : state_at start (steps ++ x ∷ []) ≡ after_step s what = state-snoc start steps x in
       let back = sym there in
       let before : (state_at start (steps ++ x ∷ [])).marked ≡ 0 → s.marked ≡ 0 =
       λ none. let least = marked s what in let same = ap (λ (u : LogState). u.marked) there in omega (arith, least, same, none) in
@@ -122,7 +122,7 @@ module _ (start : HistoryState) (steps : List Step) (r now : Record) (p q : Port
     (known : (state_at start steps).marked ≡ 0 → AreKnown (under_way (state_at start steps)) (state_at start steps).history by es)
     (is : now ≡ record r { journal = with_history r.journal es })
     (boxes : length q.boxes ≡ length p.boxes)
-    (waits : AreWaiting (after (state_at start steps) (Added es)) q)
+    (waits : AreWaiting (after_step (state_at start steps) (Added es)) q)
     (accords : Accords start r p → Accords start now q) where
   pub added-tied : IsTied start (steps ++ step by (Added es) ∷ []) now q
   added-tied =

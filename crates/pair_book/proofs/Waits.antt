@@ -17,7 +17,7 @@ use Rattle.pair_record.specs.Record.{ports_after_lose_in}
 use Rattle.pair_record.specs.internal.Accords.{AreInboxes}
 use Rattle.pair_record.proofs.AccordLaws.{AreInboxes-with, apart}
 use Rattle.growing_history.specs.Steps.{Added}
-use Rattle.growing_history.specs.LogState.{LogState, entries_of, under_way, after, first_frames, hands_out}
+use Rattle.growing_history.specs.LogState.{LogState, entries_of, under_way, after_step, first_frames, hands_out}
 use Rattle.growing_history.specs.Waiting.{StillWait, taken}
 use Rattle.growing_history.specs.laws.Waiting.{way-guests}
 use Rattle.growing_history.proofs.Arrivals.{firsts-wait, firsts-leave}
@@ -57,7 +57,7 @@ module _ (s : LogState) (p : PortsState) (w : AreWaiting s p) (guests : AreGuest
     x = record { number = p.next; client = c; frame = f }
 
     abbrev delivered : LogState
-    delivered = after s (Added (Delivered c f p.next ∷ []))
+    delivered = after_step s (Added (Delivered c f p.next ∷ []))
 
     last-delivered : ws ++ x ∷ [] ≡ waits_at_last delivered
     last-delivered =
@@ -88,7 +88,7 @@ module _ (s : LogState) (p : PortsState) (w : AreWaiting s p) (guests : AreGuest
   -- A LOSS out of an inbox: the frame is missing
   module _ (place n : ℕ) (f : Frame) (there : slice_get (list_of p.inboxes c) place ≡ Some (n, f)) where
     abbrev lost : LogState
-    lost = after s (Added (DropIn n ∷ []))
+    lost = after_step s (Added (DropIn n ∷ []))
 
     stands : StandsAt c place n f ws
     stands = ap (λ t. slice_get t place) (sym mine) ∙ there

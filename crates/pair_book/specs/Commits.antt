@@ -2,7 +2,7 @@
 use Rattle.std.specs.Prelude.{◌≡◌, ℕ, ◌+◌, ◌-◌, ◌≤◌, ◌==◌, ◌&&◌, not, nat_lt, nat_le, Bool, true, false, if◌then◌else◌, List, [], ◌∷◌, ◌++◌}
 use Rattle.std.specs.Prelude.{length, Option, None, Some}
 use Rattle.guest_machine.specs.Guest.{Guest}
-use Rattle.epoch_snapshot.specs.Checkpoints.{Change}
+use Rattle.epoch_snapshot.specs.Checkpoints.{Change, is_old_delta}
 use Rattle.epoch_snapshot.specs.Images.{image_of}
 use Rattle.checkpoint_stream.specs.Readings.{begun, fed}
 use Rattle.checkpoint_stream.specs.Sound.{change_in}
@@ -31,10 +31,6 @@ commit_of c = Committed c.generation c.number (text c)
 -- whether the backup whose seat has this number commits: it is the live one's, and no node is alone
 abbrev pub may_commit : HistoryState → BookState → ℕ → Bool
 may_commit start b number = number == (state_at start b.steps).backup && not (is_alone b.protocol.mode)
-
--- a delta of version 1 carries no frames, so what its guest sent could never be said; a full checkpoint stands for no epoch
-abbrev pub is_old_delta : Change → Bool
-is_old_delta c = c.version == 1 && not (c.number == 0)
 
 -- whether it is the next one that is to be committed; or an earlier one
 abbrev pub is_next : BookState → Change → Bool
@@ -80,15 +76,15 @@ Acknowledges false c ack = ack ≡ record { generation = c.generation; number = 
 -- WHAT THE BACKUP STANDS ON THEN: the checkpoint applied to its image, and its frames behind those that it kept, of which the last four
 -- lists are kept. A full one begins anew.
 
-abbrev pub kept_with : Change → List (List Frame) → List (List Frame)
-kept_with c kept = last_four ((if c.number == 0 then [] else kept) ++ c.frames ∷ [])
+abbrev pub kept_then : Change → List (List Frame) → List (List Frame)
+kept_then c kept = last_four ((if c.number == 0 then [] else kept) ++ c.frames ∷ [])
 
-abbrev pub sent_with : Change → ℕ → ℕ
-sent_with c sent = (if c.number == 0 then 0 else sent) + length c.frames
+abbrev pub sent_then : Change → ℕ → ℕ
+sent_then c sent = (if c.number == 0 then 0 else sent) + length c.frames
 
 -- the number of the first frame that is kept then
-abbrev pub first_with : Change → ℕ → List (List Frame) → ℕ
-first_with c sent kept = sent_with c sent + 1 - length (all_frames (kept_with c kept))
+abbrev pub first_then : Change → ℕ → List (List Frame) → ℕ
+first_then c sent kept = sent_then c sent + 1 - length (all_frames (kept_then c kept))
 
 -- the checkpoint is what its own text reads as, wherever that stood in its stream
 abbrev pub WasRead : Change → Type 0
@@ -96,18 +92,18 @@ WasRead c = (offset : ℕ) × (change_in (fed (begun c.shape offset) (text c)) �
 
 -- Where the next checkpoint was read, and is of the pair's shape, a backup that stood did so at the number before it, at none where it is a
 -- full one; and it stands by it then, and by the answer.
-abbrev pub StandsBy : HistoryState → Change → Ack → Member → Member → Type 0
-StandsBy start c ack seat seat' =
+abbrev pub StandsAfterNext : HistoryState → Change → Ack → Member → Member → Type 0
+StandsAfterNext start c ack seat seat' =
     WasRead c
     → IsShape start c.shape
     → (image : Guest) (last : Option Ack) (sent first : ℕ) (kept : List (List Frame))
     → Stands start seat image last sent first kept
     → (last ≡ ack_before c.generation c.number)
-    × Stands start seat' (image_of c image) (Some ack) (sent_with c sent) (first_with c sent kept) (kept_with c kept)
+    × Stands start seat' (image_of c image) (Some ack) (sent_then c sent) (first_then c sent kept) (kept_then c kept)
 
 -- Where an earlier one was read, a backup that stood did so at the last committed one, which is acknowledged; and it stands on.
-abbrev pub StandsAgain : HistoryState → Ack → Member → Member → Type 0
-StandsAgain start ack seat seat' =
+abbrev pub StandsAfterAgain : HistoryState → Ack → Member → Member → Type 0
+StandsAfterAgain start ack seat seat' =
     (image : Guest) (last : Option Ack) (sent first : ℕ) (kept : List (List Frame))
     → Stands start seat image last sent first kept
     → (last ≡ Some ack) × Stands start seat' image last sent first kept

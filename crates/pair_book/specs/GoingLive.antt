@@ -16,7 +16,7 @@ use Rattle.pair_book.specs.declared.failures.Ack.{Ack}
 use Rattle.pair_book.specs.Books.{BookState}
 use Rattle.pair_book.specs.Calls.{is_word_full}
 use Rattle.pair_book.specs.Failures.{first_of}
-use Rattle.pair_book.specs.Settled.{just_settled, Runs}
+use Rattle.pair_book.specs.Settled.{settled_runner, Runs}
 use Rattle.pair_book.specs.Standing.{Stands}
 
 -- It makes one step, under no member's number, which gives the new runner the next number of a seat. The backup's seat has then seen the
@@ -48,4 +48,4 @@ BeginsWithImage start seat runner first kept =
     (image : Guest) (last : Option Ack) (sent : ℕ) → Stands start seat image last sent first kept
     → IsSome last
     × ((state_at start seat.steps).marked ≡ 0 → image ≡ (state_at start seat.steps).history.guest)
-    × Runs start runner (just_settled image [])
+    × Runs start runner (settled_runner image [])

@@ -8,8 +8,8 @@ use Rattle.pair_record.specs.declared.event.Refusal.TheVariants.{NoMemory}
 use Rattle.pair_record.specs.Protocol.{Row, loss_refusals, loss_done}
 use Rattle.growing_history.specs.Steps.{Added}
 use Rattle.growing_history.specs.Views.{Member}
-use Rattle.pair_book.specs.declared.losses.Loss.{Loss}
-use Rattle.pair_book.specs.declared.losses.Loss.TheVariants.{Dropped, Empty}
+use Rattle.pair_book.specs.declared.losses.Lost.{Lost}
+use Rattle.pair_book.specs.declared.losses.Lost.TheVariants.{Dropped, Empty}
 use Rattle.pair_book.specs.Books.{BookState}
 use Rattle.pair_book.specs.Calls.{Makes, Shows, is_word_full}
 
@@ -25,7 +25,7 @@ IsWhyLoss None None why = ⊥
 
 -- What a loss leaves that was answered so. Where no frame was there the book is as before, and the seat has seen all of it; else the step
 -- adds that entry, and the frame has left.
-abbrev pub AfterLoss : Option Entry → PortsState → Loss → BookState → BookState → Member → Member → Type 0
+abbrev pub AfterLoss : Option Entry → PortsState → Lost → BookState → BookState → Member → Member → Type 0
 AfterLoss entry ports Empty old new seat seat' = (entry ≡ None) × (new ≡ old) × Shows old seat seat'
 AfterLoss entry ports Dropped old new seat seat' =
     (e : Entry)

@@ -12,7 +12,7 @@ epoch_of handed arrivals steps = map Arrive (take arrivals handed) ++ replicate 
 
 -- By what its seat has seen: its number is at most the live runner's; and where it is that one, no more arrived than was handed out to it,
 -- and, unless a commit is marked, these frames are what the guest sends along the epoch from the sealed state.
-pub record IsSettled (start : HistoryState) (seat : Member) (arrivals steps : ℕ) (frames : List Frame) : Type 0 where
+pub record EpochFollows (start : HistoryState) (seat : Member) (arrivals steps : ℕ) (frames : List Frame) : Type 0 where
   pub born : seat.number ≤ (state_at start seat.steps).runner
   pub held : (state_at start seat.steps).runner ≡ seat.number → arrivals ≤ length (state_at start seat.steps).handed
   pub sent : (state_at start seat.steps).runner ≡ seat.number → (state_at start seat.steps).marked ≡ 0
@@ -20,7 +20,7 @@ pub record IsSettled (start : HistoryState) (seat : Member) (arrivals steps : �
 
 -- ALL THAT IT HAS
 
-pub record RunnerState : Type 0 where
+pub record RunnerOutside : Type 0 where
   -- since its last epoch ended: how many of the frames that it was handed arrived, the first first, and how many steps came after them
   pub arrivals : ℕ
   pub steps : ℕ
@@ -32,20 +32,20 @@ pub record RunnerState : Type 0 where
   -- the guest of the machine when it was last settled
   pub settled : Guest
 
-abbrev pub runner_state : ℕ → ℕ → List (ℕ × Frame) → Guest → List Frame → Guest → RunnerState
-runner_state arrivals steps held guest outbox settled =
+abbrev pub runner_outside : ℕ → ℕ → List (ℕ × Frame) → Guest → List Frame → Guest → RunnerOutside
+runner_outside arrivals steps held guest outbox settled =
     record { arrivals = arrivals; steps = steps; held = held; guest = guest; outbox = outbox; settled = settled }
 
 abbrev pub numbers_of : List (ℕ × Frame) → List ℕ
 numbers_of xs = map (λ (x : ℕ × Frame). x.0) xs
 
 -- one of a machine that was settled with this guest, and has run no epoch since; it holds these frames
-abbrev pub just_settled : Guest → List (ℕ × Frame) → RunnerState
-just_settled g held = runner_state 0 0 held g [] g
+abbrev pub settled_runner : Guest → List (ℕ × Frame) → RunnerOutside
+settled_runner g held = runner_outside 0 0 held g [] g
 
 -- What it has follows from the sealed state: the frames that it holds wait there under their numbers; its machine was last settled there;
 -- and its guest is the one after its epoch, along which that sent what is in the outbox.
-pub record Follows (s : LogState) (x : RunnerState) : Type 0 where
+pub record Follows (s : LogState) (x : RunnerOutside) : Type 0 where
   pub held : All (λ (p : ℕ × Frame). frame_numbered p.0 (sealed_state s).waiting ≡ Some p.1) x.held
   pub settled : x.settled ≡ (sealed_state s).guest
   pub guest : x.guest ≡ (at (sealed_state s) (epoch_of s.handed x.arrivals x.steps)).guest
@@ -53,7 +53,7 @@ pub record Follows (s : LogState) (x : RunnerState) : Type 0 where
 
 -- A runner runs on, by what its seat has seen: its number is at most the live runner's; and where it is that one, what arrived and then
 -- what it holds is what was handed out to it, and, unless a commit is marked, what it has follows from the sealed state.
-pub record Runs (start : HistoryState) (seat : Member) (x : RunnerState) : Type 0 where
+pub record Runs (start : HistoryState) (seat : Member) (x : RunnerOutside) : Type 0 where
   pub born : seat.number ≤ (state_at start seat.steps).runner
   pub came : (state_at start seat.steps).runner ≡ seat.number → x.arrivals ≤ length (state_at start seat.steps).handed
   pub holds : (state_at start seat.steps).runner ≡ seat.number → numbers_of x.held ≡ drop x.arrivals (state_at start seat.steps).handed
@@ -64,5 +64,5 @@ pub record Runs (start : HistoryState) (seat : Member) (x : RunnerState) : Type 
 -- guest, once its machine is settled there: it holds what it held, and then what it is handed now.
 abbrev pub RunsOn : HistoryState → Member → Member → ℕ → ℕ → List Frame → List (ℕ × Frame) → Type 0
 RunsOn start seat seat' arrivals steps frames next =
-    (held : List (ℕ × Frame)) (guest settled : Guest) → Runs start seat (runner_state arrivals steps held guest frames settled)
-    → Runs start seat' (just_settled guest (held ++ next))
+    (held : List (ℕ × Frame)) (guest settled : Guest) → Runs start seat (runner_outside arrivals steps held guest frames settled)
+    → Runs start seat' (settled_runner guest (held ++ next))

@@ -5,9 +5,10 @@ use Rattle.pair_history.specs.Entries.{Frame}
 use Rattle.pair_history.specs.HistoryState.{HistoryState, sent_along}
 use Rattle.pair_record.specs.Kept.{all_frames}
 use Rattle.growing_history.specs.Steps.{What, Committed, Protected, Step}
-use Rattle.growing_history.specs.LogState.{LogState, start_of, entries_of, after, state_at, IsAlone, is_filling}
+use Rattle.growing_history.specs.LogState.{LogState, start_of, entries_of, after_step, state_at, IsAlone}
 use Rattle.growing_history.specs.Views.{Member}
 use Rattle.pair_book.specs.declared.failures.Ack.{Ack}
+use Rattle.failover.specs.Modes.{is_filling}
 
 -- the frames that the guest sent along the first sealed epoch, which a commit commits; along that of a full checkpoint it sent none
 abbrev pub first_sent : LogState → List Frame
@@ -21,7 +22,7 @@ commits_after s other lists = lists
 
 abbrev pub commits_from : LogState → List Step → List (List Frame) → List (List Frame)
 commits_from s [] lists = lists
-commits_from s (x ∷ xs) lists = commits_from (after s x.what) xs (commits_after s x.what lists)
+commits_from s (x ∷ xs) lists = commits_from (after_step s x.what) xs (commits_after s x.what lists)
 
 -- For each commit since the backup began, the first one at the start and each later one as it was protected, in order: the frames that the
 -- guest sent along the committed epoch.

@@ -1,7 +1,7 @@
 -- What a submit does: the runner's epoch ends, and the next frames are handed out; and why one is refused.
 use Rattle.std.specs.Prelude.{ℕ, ◌+◌, ◌*◌, ◌==◌, ◌&&◌, not, nat_le, Bool, true, false, List, [], ◌∷◌, ◌++◌, length, Option}
 use Rattle.frame_ports.specs.Limits.{number_limit}
-use Rattle.frame_ports.specs.Numbers.{marked}
+use Rattle.frame_ports.specs.Numbers.{renumbered}
 use Rattle.frame_ports.specs.Ports.{PortsState}
 use Rattle.pair_history.specs.Entries.{Frame, Entry}
 use Rattle.pair_history.specs.HistoryState.{HistoryState}
@@ -35,7 +35,7 @@ protocol_ended Full arrivals steps frames r p = (full_done (enter_epoch_done arr
 abbrev pub ports_ended : Kind → List Frame → Record → PortsState → PortsState
 ports_ended Nothing frames r p = ports_landed p r.next_frame frames
 ports_ended Delta frames r p = p
-ports_ended Full frames r p = marked (ports_landed p r.next_frame frames)
+ports_ended Full frames r p = renumbered (ports_landed p r.next_frame frames)
 
 -- nothing is handed out yet
 abbrev pub ended_as : Kind → ℕ → ℕ → List Frame → Record → PortsState → Handing
@@ -53,8 +53,8 @@ abbrev pub told_as : Prepared → List Entry → What
 told_as prepared.Nothing epoch = RanAlone epoch
 told_as (prepared.Checkpoint c) epoch = Sealed c.generation c.number epoch c.text
 
-abbrev pub told : BookState → ℕ → ℕ → Prepared → What
-told b arrivals steps what = told_as what (guest_epoch arrivals steps b.protocol.journal.running)
+abbrev pub epoch_told : BookState → ℕ → ℕ → Prepared → What
+epoch_told b arrivals steps what = told_as what (guest_epoch arrivals steps b.protocol.journal.running)
 
 -- the pending texts then: that of a checkpoint is the last of them
 abbrev pub texts_ended : Prepared → TextsState → TextsState

@@ -14,9 +14,9 @@ is_after None n = true
 is_after (Some last) n = nat_lt last n
 
 -- the first of these that comes after it
-abbrev pub first_after : Option ℕ → List PacketState → Option PacketState
-first_after given [] = None
-first_after given (p ∷ ps) = if is_after given p.number then Some p else first_after given ps
+abbrev pub first_packet_after : Option ℕ → List PacketState → Option PacketState
+first_packet_after given [] = None
+first_packet_after given (p ∷ ps) = if is_after given p.number then Some p else first_packet_after given ps
 
 abbrev pub or_first : Option PacketState → List PacketState → Option PacketState
 or_first (Some p) ps = Some p
@@ -24,7 +24,7 @@ or_first None ps = slice_get ps 0
 
 -- Of packets that rise by number: the least above the one given last, else the least; none where there are none.
 abbrev pub next_of : TextsState → Option PacketState
-next_of t = or_first (first_after t.given t.packets) t.packets
+next_of t = or_first (first_packet_after t.given t.packets) t.packets
 
 -- once that one was given
 abbrev pub given_after : Option PacketState → TextsState → TextsState

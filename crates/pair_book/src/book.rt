@@ -1,7 +1,7 @@
 //! The book.
 ghost use Rattle.std.specs.Prelude.{◌≡◌, ℕ, ◌+◌, ◌≤◌, [], length, map};
 ghost use Rattle.frame_ports.specs.Ports.{IsClient, inbox_of};
-ghost use Rattle.growing_history.specs.LogState.{Legal, state_at, history_of};
+ghost use Rattle.growing_history.specs.LogState.{LegalSteps, state_at, history_of};
 ghost use Rattle.pair_history.specs.Entries.{Arrive};
 ghost use Rattle.pair_book.specs.Books.{inbox_at};
 ghost use Rattle.pair_book.specs.Calls.{IsClientSeat, Shows, client_of, is_word_full};
@@ -52,7 +52,7 @@ impl<P: Pair> Book<P> {
         // What is true of every book.
         ensures history { (state_at P.start self.now.steps).marked ≡ 0
             → self.now.protocol.journal.history ≡ history_of P.start self.now.steps }
-        ensures legal { Legal P.start self.now.steps }
+        ensures legal { LegalSteps P.start self.now.steps }
         ensures made { AreMade P.start self.now.steps }
         ensures clients { length self.now.ports.boxes ≡ length P.start.boxes }
         ensures mode { self.now.protocol.mode ≡ (state_at P.start self.now.steps).mode }
@@ -97,7 +97,7 @@ impl<P: Pair> Book<P> {
     pub fn show(&mut self, clock: &Clock<P>, seat: &mut MemberSeat<P>)
         ensures same { self.new ≡ self.old }
         ensures shows { Shows self.old seat.old seat.new }
-        ensures legal { Legal P.start self.old.steps }
+        ensures legal { LegalSteps P.start self.old.steps }
     {
         self.seats.meet(clock, seat);
     }

@@ -3,8 +3,9 @@ ghost use Rattle.std.specs.Prelude.{◌≡◌, ◌<◌, true, false, None, IfOk,
 ghost use Rattle.pair_record.specs.declared.event.Reply.TheVariants as replies;
 ghost use Rattle.pair_record.specs.Protocol.{again_done};
 ghost use Rattle.pair_book.specs.Calls.{IsWhy, IsAsBefore};
-ghost use Rattle.pair_book.specs.Commits.{may_commit, is_old_delta, is_earlier, commit_why, AfterCommit, Acknowledges, StandsBy};
-ghost use Rattle.pair_book.specs.Commits.{StandsAgain};
+ghost use Rattle.pair_book.specs.Commits.{may_commit, is_earlier, commit_why, AfterCommit, Acknowledges, StandsAfterNext};
+ghost use Rattle.pair_book.specs.Commits.{StandsAfterAgain};
+ghost use Rattle.epoch_snapshot.specs.Checkpoints.{is_old_delta};
 
 use crate::book::Book;
 use crate::failures::Ack;
@@ -128,9 +129,9 @@ impl<P: Pair> Book<P> {
         ensures acknowledged { IfOk result (λ ack. IfSome read.entry (λ c. Acknowledges (is_earlier self.old c.now) c.now ack)) }
         // A backup that stood at the image before stands after the next one, by what it read.
         ensures stands { IfOk result (λ ack. IfSome read.entry (λ c. is_earlier self.old c.now ≡ false
-            → StandsBy P.start c.now ack seat.old seat.new)) }
+            → StandsAfterNext P.start c.now ack seat.old seat.new)) }
         ensures again { IfOk result (λ ack. IfSome read.entry (λ c. is_earlier self.old c.now ≡ true
-            → StandsAgain P.start ack seat.old seat.new)) }
+            → StandsAfterAgain P.start ack seat.old seat.new)) }
         ensures free { OnOk result (commit_why P.start self.old seat.old.number (option_map (λ c. c.now) read.entry) ≡ None) }
         ensures why { IfErr result (IsWhy (commit_why P.start self.old seat.old.number (option_map (λ c. c.now) read.entry))) }
         ensures refused { OnErr result (IsAsBefore self.old self.new seat.old seat.new) }

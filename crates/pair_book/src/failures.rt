@@ -25,7 +25,7 @@ pub struct Ack {
 
 /// What landed where frames left the gate.
 #[derive(Clone, Copy, Debug, PartialEq, Eq)]
-pub struct Landed {
+pub struct LandedCount {
     /// How many frames, each counted for each client whose box took it.
     pub count: u64,
 }
@@ -65,7 +65,7 @@ impl<P: Pair> Book<P> {
     /// In this order: [`Refusal::Stopped`] where the primary has stopped; [`Refusal::NotPaired`] where a node is alone; [`Refusal::Stale`]
     /// for another generation; [`Refusal::Gap`] beyond the last commit; [`Refusal::Exhausted`] where the history, or the word, would reach
     /// 2^62. [`Refusal::NoMemory`] where the room for the landings in the history can't be had.
-    pub fn acked(&mut self, clock: &Clock<P>, ack: Ack) -> Result<Landed, Refusal>
+    pub fn acked(&mut self, clock: &Clock<P>, ack: Ack) -> Result<LandedCount, Refusal>
         ensures done { IfOk result (λ landed. (replies.Acked ack.generation ack.number landed.count, self.new.protocol)
             ≡ ack_done self.old.ports.boxes self.old.protocol ack.number) }
         ensures ports { OnOk result (self.new.ports ≡ ports_after_ack self.old.ports self.old.protocol ack.number) }
@@ -95,7 +95,7 @@ impl<P: Pair> Book<P> {
         if self.record.history().len() > before {
             tell_alone(&self.record, before, &mut self.seats, clock);
         }
-        Ok(Landed { count: landed })
+        Ok(LandedCount { count: landed })
     }
 
     /// The primary stops: nothing else changes.
@@ -148,7 +148,7 @@ impl<P: Pair> Book<P> {
     /// In this order: [`Refusal::Stopped`] where the primary has stopped; [`Refusal::NotPaired`] where a node is alone;
     /// [`Refusal::Exhausted`] where the history with what is kept, or the word, would reach 2^62. [`Refusal::NoMemory`] where the room in
     /// the history can't be had.
-    pub fn fail_backup(&mut self, clock: &Clock<P>) -> Result<Landed, Refusal>
+    pub fn fail_backup(&mut self, clock: &Clock<P>) -> Result<LandedCount, Refusal>
         ensures done { IfOk result (λ landed. (replies.Alone self.old.protocol.generation landed.count, self.new.protocol)
             ≡ fail_within_done self.old.ports.boxes self.old.protocol) }
         ensures ports { OnOk result (self.new.ports ≡ ports_after_all self.old.ports [] self.old.protocol) }
@@ -168,7 +168,7 @@ impl<P: Pair> Book<P> {
         };
         self.texts.clear();
         self.seats.step_alone(clock, &What::BackupFailed);
-        Ok(Landed { count: landed })
+        Ok(LandedCount { count: landed })
     }
 
     /// Why a node can't get a new backup.

@@ -27,12 +27,12 @@ mod submitting;
 mod texts;
 
 pub use book::{Book, LINE_SEAT};
-pub use failures::{Ack, Landed};
+pub use failures::{Ack, LandedCount};
 pub use kept_texts::KeptTexts;
 pub use laws::{members_begin, members_go_on, runners_bring_what_they_have};
-pub use losses::{LineSeat, Loss};
+pub use losses::{LineSeat, Lost};
 pub use opening::{Members, NewBook, UnnamedBook};
-pub use packet::Packet;
+pub use packet::TextPacket;
 pub use pair_record::Refusal;
 pub use prepared::Prepared;
 pub use runner::{Kind, Want};

@@ -3,7 +3,7 @@ ghost use Rattle.std.specs.Prelude.{◌≡◌, None, IfOk, OnOk, IfErr};
 ghost use Rattle.frame_ports.specs.Ports.{inbox_of, box_of};
 ghost use Rattle.pair_record.specs.Protocol.{first_refusal, lost_in, lost_out};
 ghost use Rattle.pair_record.specs.Record.{ports_after_lose_in, ports_after_lose_out};
-ghost use Rattle.growing_history.specs.LogState.{Legal, line_seat};
+ghost use Rattle.growing_history.specs.LogState.{LegalSteps, line_seat};
 ghost use Rattle.pair_book.specs.Calls.{IsAsBefore, Shows};
 ghost use Rattle.pair_book.specs.Losses.{loss_rows, IsWhyLoss, AfterLoss};
 
@@ -15,7 +15,7 @@ use std::marker::Model;
 
 /// What became of a loss that was asked for.
 #[derive(Clone, Copy, Debug, PartialEq, Eq)]
-pub enum Loss {
+pub enum Lost {
     /// The frame that was there is dropped.
     Dropped,
     /// No frame was there: nothing happened, but that the seat has seen all steps.
@@ -55,7 +55,7 @@ impl<P: Pair> LineSeat<P> {
         ensures number { result ≡ self.now.number }
         // What is true of every line's seat.
         ensures line { self.now.number ≡ line_seat }
-        ensures legal { Legal P.start self.now.steps }
+        ensures legal { LegalSteps P.start self.now.steps }
     {
         self.member.number()
     }
@@ -74,7 +74,7 @@ impl<P: Pair> Book<P> {
     pub fn show_line(&mut self, clock: &Clock<P>, line: &mut LineSeat<P>)
         ensures same { self.new ≡ self.old }
         ensures shows { Shows self.old line.old line.new }
-        ensures legal { Legal P.start self.old.steps }
+        ensures legal { LegalSteps P.start self.old.steps }
     {
         self.show(clock, &mut line.member);
     }
@@ -91,7 +91,7 @@ impl<P: Pair> Book<P> {
         seat: &mut LineSeat<P>,
         client: u64,
         place: u64,
-    ) -> Result<Loss, Refusal>
+    ) -> Result<Lost, Refusal>
         ensures number { seat.new.number ≡ seat.old.number }
         ensures texts { self.new.texts ≡ self.old.texts }
         ensures done { IfOk result (λ loss. AfterLoss (lost_in (inbox_of self.old.ports client) place)
@@ -112,10 +112,10 @@ impl<P: Pair> Book<P> {
                 clock,
                 &mut seat.member,
             );
-            Ok(Loss::Dropped)
+            Ok(Lost::Dropped)
         } else {
             self.seats.meet(clock, &mut seat.member);
-            Ok(Loss::Empty)
+            Ok(Lost::Empty)
         }
     }
 
@@ -130,7 +130,7 @@ impl<P: Pair> Book<P> {
         seat: &mut LineSeat<P>,
         client: u64,
         place: u64,
-    ) -> Result<Loss, Refusal>
+    ) -> Result<Lost, Refusal>
         ensures number { seat.new.number ≡ seat.old.number }
         ensures texts { self.new.texts ≡ self.old.texts }
         ensures done { IfOk result (λ loss. AfterLoss (lost_out client (box_of self.old.ports client) place)
@@ -151,10 +151,10 @@ impl<P: Pair> Book<P> {
                 clock,
                 &mut seat.member,
             );
-            Ok(Loss::Dropped)
+            Ok(Lost::Dropped)
         } else {
             self.seats.meet(clock, &mut seat.member);
-            Ok(Loss::Empty)
+            Ok(Lost::Empty)
         }
     }
 }

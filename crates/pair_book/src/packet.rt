@@ -17,14 +17,14 @@ use std::sync::Arc;
 ///
 /// The text is shared: who is handed a packet gets a handle to it, and no byte is copied.
 #[derive(Drop)]
-pub struct Packet {
+pub struct TextPacket {
     alloc: Global,
     generation: u64,
     number: u64,
     text: SharedBytes,
 }
 
-impl Model for Packet {
+impl Model for TextPacket {
     ghost use Rattle.pair_book.specs.Packets.{PacketState, IsTextOf};
     ghost use Rattle.pair_book.specs.internal.SharedBytes.{bytes_of};
 
@@ -35,13 +35,13 @@ impl Model for Packet {
     ghost invariant = { λ p. IsTextOf p.generation p.number (bytes_of p.text) };
 }
 
-impl Packet {
+impl TextPacket {
     /// The packet of a checkpoint of version 2, as the caller knows.
     ///
     /// # Errors
     ///
     /// [`MemoryWanted`] where the room for its text can't be had.
-    pub fn new(alloc: Global, checkpoint: &Checkpoint) -> Result<Packet, MemoryWanted>
+    pub fn new(alloc: Global, checkpoint: &Checkpoint) -> Result<TextPacket, MemoryWanted>
         requires { checkpoint.now.version ≡ 2 }
         ensures generation { IfOk result (λ p. p.generation ≡ checkpoint.now.generation) }
         ensures number { IfOk result (λ p. p.number ≡ checkpoint.now.number) }
@@ -53,7 +53,7 @@ impl Packet {
             Err(StreamError::NoMemory(wanted)) => return Err(wanted),
             Err(StreamError::Malformed(_)) => unreachable!(),
         };
-        Ok(Packet {
+        Ok(TextPacket {
             alloc,
             generation: checkpoint.generation(),
             number: checkpoint.number(),
@@ -90,10 +90,10 @@ impl Packet {
     /// # Errors
     ///
     /// [`MemoryWanted`] where the room for such a copy can't be had.
-    pub fn share(&self) -> Result<Packet, MemoryWanted>
+    pub fn share(&self) -> Result<TextPacket, MemoryWanted>
         ensures { IfOk result (λ p. p ≡ self.now) }
     {
-        Ok(Packet {
+        Ok(TextPacket {
             alloc: self.alloc,
             generation: self.generation,
             number: self.number,

@@ -1,7 +1,7 @@
 //! What a runner prepares beside an epoch.
 ghost use Rattle.std.specs.Prelude.{◌≡◌, IfOk};
 
-use crate::packet::Packet;
+use crate::packet::TextPacket;
 use memory_wanted::MemoryWanted;
 
 /// What was prepared for the end of an epoch.
@@ -9,7 +9,7 @@ use memory_wanted::MemoryWanted;
 pub enum Prepared {
     /// No checkpoint: the node is alone.
     Nothing,
-    Checkpoint(Packet),
+    Checkpoint(TextPacket),
 }
 
 impl Prepared {
@@ -17,7 +17,7 @@ impl Prepared {
     ///
     /// # Errors
     ///
-    /// [`MemoryWanted`] as in [`Packet::share`].
+    /// [`MemoryWanted`] as in [`TextPacket::share`].
     pub(crate) fn share(&self) -> Result<Prepared, MemoryWanted>
         ensures { IfOk result (λ p. p ≡ self.now) }
     {

@@ -1,6 +1,6 @@
 //! The keeper's seat, and whose seats are live.
 ghost use Rattle.std.specs.Prelude.{◌≡◌, ◌+◌, ◌<◌, ◌^◌, ◌++◌, ◌∷◌, [], length};
-ghost use Rattle.growing_history.specs.LogState.{Legal, IsNew, state_at, client_seat};
+ghost use Rattle.growing_history.specs.LogState.{LegalSteps, IsNew, state_at, client_seat};
 ghost use Rattle.growing_history.specs.Steps.{Begins, WentLive, Protected, step, steps_by};
 ghost use Rattle.pair_book.specs.internal.Live.{AreLive, LeavesLive};
 
@@ -43,7 +43,7 @@ impl<P: Pair> Seats<P> {
     pub(crate) fn count(&self) -> u64
         ensures count { result ≡ length self.now.steps }
         // What is true of every keeper's seat.
-        ensures legal { Legal P.start self.now.steps }
+        ensures legal { LegalSteps P.start self.now.steps }
     {
         self.keeper.count()
     }
@@ -74,7 +74,7 @@ impl<P: Pair> Seats<P> {
     /// A step of the member whose seat is lent.
     pub(crate) fn step<W: Tells>(&mut self, clock: &Clock<P>, member: &mut MemberSeat<P>, what: &W)
         requires room { length self.old.steps < 2 ^ 62 }
-        requires legal { Legal P.start (self.old.steps ++ step member.old.number (W.what what.now) ∷ []) }
+        requires legal { LegalSteps P.start (self.old.steps ++ step member.old.number (W.what what.now) ∷ []) }
         requires live { LeavesLive (W.what what.now) }
         ensures keeper { self.new ≡ record self.old { steps = self.old.steps ++ step member.old.number (W.what what.now) ∷ [] } }
         ensures member { member.new ≡ record { number = member.old.number; steps = self.new.steps } }
@@ -88,7 +88,7 @@ impl<P: Pair> Seats<P> {
     /// A step that is no member's.
     pub(crate) fn step_alone<W: Tells>(&mut self, clock: &Clock<P>, what: &W)
         requires room { length self.old.steps < 2 ^ 62 }
-        requires legal { Legal P.start (self.old.steps ++ step 0 (W.what what.now) ∷ []) }
+        requires legal { LegalSteps P.start (self.old.steps ++ step 0 (W.what what.now) ∷ []) }
         requires live { LeavesLive (W.what what.now) }
         ensures { self.new ≡ record self.old { steps = self.old.steps ++ step 0 (W.what what.now) ∷ [] } }
     {
@@ -101,7 +101,7 @@ impl<P: Pair> Seats<P> {
         ensures member { member.new ≡ record { number = member.old.number; steps = self.old.steps } }
         ensures before { Begins member.old.steps self.old.steps }
         ensures own { steps_by member.old.number self.old.steps ≡ steps_by member.old.number member.old.steps }
-        ensures legal { Legal P.start self.old.steps }
+        ensures legal { LegalSteps P.start self.old.steps }
     {
         self.keeper.meet(clock, member);
     }
@@ -110,7 +110,7 @@ impl<P: Pair> Seats<P> {
     pub(crate) fn protect(&mut self, clock: &Clock<P>) -> BackupSeat<P>
         requires room { length self.old.steps < 2 ^ 62 }
         requires few { (state_at P.start self.old.steps).generation < 2 ^ 62 }
-        requires legal { Legal P.start (self.old.steps ++ step 0 (Protected (self.old.enrolled + 1)) ∷ []) }
+        requires legal { LegalSteps P.start (self.old.steps ++ step 0 (Protected (self.old.enrolled + 1)) ∷ []) }
         ensures keeper { self.new ≡ record {
           steps = self.old.steps ++ step 0 (Protected (self.old.enrolled + 1)) ∷ [];
           enrolled = self.old.enrolled + 1;
@@ -129,7 +129,7 @@ impl<P: Pair> Seats<P> {
     pub(crate) fn go_live(&mut self, clock: &Clock<P>) -> RunnerSeat<P>
         requires room { length self.old.steps < 2 ^ 62 }
         requires few { (state_at P.start self.old.steps).generation < 2 ^ 62 }
-        requires legal { Legal P.start (self.old.steps ++ step 0 (WentLive (self.old.enrolled + 1)) ∷ []) }
+        requires legal { LegalSteps P.start (self.old.steps ++ step 0 (WentLive (self.old.enrolled + 1)) ∷ []) }
         ensures keeper { self.new ≡ record {
           steps = self.old.steps ++ step 0 (WentLive (self.old.enrolled + 1)) ∷ [];
           enrolled = self.old.enrolled + 1;

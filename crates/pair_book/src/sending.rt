@@ -6,7 +6,7 @@ ghost use Rattle.pair_book.specs.Calls.{IsWhy};
 ghost use Rattle.pair_book.specs.Texts.{WasSealed, ArePending, next_of, given_after, next_why};
 
 use crate::book::Book;
-use crate::packet::Packet;
+use crate::packet::TextPacket;
 use growing_history::Pair;
 use pair_record::{Event, Refusal, mode_refusal};
 
@@ -18,8 +18,8 @@ impl<P: Pair> Book<P> {
     /// # Errors
     ///
     /// [`Refusal::Stopped`] where the primary has stopped; [`Refusal::NotPaired`] where a node is alone. [`Refusal::NoMemory`] as in
-    /// [`Packet::share`].
-    pub fn next(&mut self) -> Result<Option<Packet>, Refusal>
+    /// [`TextPacket::share`].
+    pub fn next(&mut self) -> Result<Option<TextPacket>, Refusal>
         ensures done { IfOk result (λ packet. packet ≡ next_of self.old.texts) }
         ensures given { OnOk result (self.new ≡ record self.old { texts = given_after (next_of self.old.texts) self.old.texts }) }
         // It is of this generation, and was sealed under its number with its text.

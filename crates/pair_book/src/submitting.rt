@@ -14,8 +14,8 @@ ghost use Rattle.pair_book.specs.Calls.{Makes, IsAsBefore, IsWhy};
 ghost use Rattle.pair_book.specs.Handing.{handing, handed_next, HandsNext};
 ghost use Rattle.pair_book.specs.Made.{IsPrepared};
 ghost use Rattle.pair_book.specs.Running.{kind_wanted};
-ghost use Rattle.pair_book.specs.Settled.{IsSettled, RunsOn};
-ghost use Rattle.pair_book.specs.Submitting.{protocol_ended, ports_ended, ended_as, ended, told, submit_why, prepared_rows, ended_rows};
+ghost use Rattle.pair_book.specs.Settled.{EpochFollows, RunsOn};
+ghost use Rattle.pair_book.specs.Submitting.{protocol_ended, ports_ended, ended_as, ended, epoch_told, submit_why, prepared_rows, ended_rows};
 ghost use Rattle.pair_book.specs.Submitting.{most_handed, wanted_kind, texts_ended};
 ghost use Rattle.pair_book.specs.internal.Committed.{KeepsCommitted};
 ghost use Rattle.pair_book.specs.internal.Tie.{IsTied};
@@ -272,7 +272,7 @@ impl<P: Pair> Book<P> {
         frames: &[Frame],
         what: &Prepared,
     ) -> Result<Next, Refusal>
-        requires settled { IsSettled P.start seat.old epoch.arrivals epoch.steps frames.now }
+        requires settled { EpochFollows P.start seat.old epoch.arrivals epoch.steps frames.now }
         requires prepared { IsPrepared P.start seat.old epoch.arrivals epoch.steps frames.now what.now }
         requires few { length frames.now ≤ 256 }
         requires frames { All IsFrame frames.now }
@@ -281,7 +281,7 @@ impl<P: Pair> Book<P> {
             (handing self.new.protocol self.new.ports next.frames.items)) }
         ensures are_frames { IfOk result (λ next. All (λ x. IsFrame x.1) next.frames.items) }
         ensures texts { OnOk result (self.new.texts ≡ texts_ended what.now self.old.texts) }
-        ensures step { OnOk result (Makes (told self.old epoch.arrivals epoch.steps what.now) self.old self.new seat.old seat.new) }
+        ensures step { OnOk result (Makes (epoch_told self.old epoch.arrivals epoch.steps what.now) self.old self.new seat.old seat.new) }
         ensures runs { IfOk result (λ next. RunsOn P.start seat.old seat.new epoch.arrivals epoch.steps frames.now next.frames.items) }
         ensures free { OnOk result (submit_why P.start self.old seat.old.number what.now epoch.steps frames.now ≡ None) }
         ensures why { IfErr result (IsWhy (submit_why P.start self.old seat.old.number what.now epoch.steps frames.now)) }

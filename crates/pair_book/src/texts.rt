@@ -2,9 +2,9 @@
 ghost use Rattle.std.specs.Prelude.{◌≡◌, ◌<◌, ◌≤◌, [], length, slice_get, IfOk, OnOk, OnErr, vec_len, vec_capacity};
 ghost use Rattle.pair_record.specs.Limits.{most_pending};
 ghost use Rattle.pair_book.specs.Packets.{no_texts};
-ghost use Rattle.pair_book.specs.Texts.{is_after, first_after, or_first, next_of, given_after, above, texts_above, with_text};
+ghost use Rattle.pair_book.specs.Texts.{is_after, first_packet_after, or_first, next_of, given_after, above, texts_above, with_text};
 
-use crate::packet::Packet;
+use crate::packet::TextPacket;
 use memory_wanted::{MemoryWanted, with_capacity};
 use std::alloc::Global;
 use std::marker::Model;
@@ -16,7 +16,7 @@ pub(crate) const MOST_PENDING: usize = 4;
 /// of all are reserved at the start: of the calls only [`Texts::next`] may want memory.
 #[derive(Drop)]
 pub(crate) struct Texts {
-    packets: Vec<Packet>,
+    packets: Vec<TextPacket>,
     given: Option<u64>,
 }
 
@@ -44,14 +44,14 @@ impl Texts {
     }
 
     /// The packets, the least number first.
-    pub(crate) fn packets(&self) -> &[Packet]
+    pub(crate) fn packets(&self) -> &[TextPacket]
         ensures { result.now ≡ self.now.packets }
     {
         &self.packets
     }
 
     /// One more checkpoint is pending: it was sealed with this packet's text.
-    pub(crate) fn push(&mut self, packet: Packet)
+    pub(crate) fn push(&mut self, packet: TextPacket)
         requires { length self.old.packets < most_pending }
         ensures { self.new ≡ with_text self.old packet }
     {
@@ -77,8 +77,8 @@ impl Texts {
     ///
     /// # Errors
     ///
-    /// [`MemoryWanted`] as in [`Packet::share`].
-    pub(crate) fn next(&mut self) -> Result<Option<Packet>, MemoryWanted>
+    /// [`MemoryWanted`] as in [`TextPacket::share`].
+    pub(crate) fn next(&mut self) -> Result<Option<TextPacket>, MemoryWanted>
         ensures done { IfOk result (λ p. p ≡ next_of self.old) }
         ensures given { OnOk result (self.new ≡ given_after (next_of self.old) self.old) }
         ensures err { OnErr result (self.new ≡ self.old) }
@@ -95,7 +95,7 @@ impl Texts {
 }
 
 /// The first packets leave, up to this number.
-fn leave_to(packets: &mut Vec<Packet>, number: u64)
+fn leave_to(packets: &mut Vec<TextPacket>, number: u64)
     ensures items { packets.new.items ≡ above number packets.old.items }
     ensures capacity { vec_capacity packets.new ≡ vec_capacity packets.old }
 {
@@ -118,10 +118,10 @@ fn is_after(given: Option<u64>, number: u64) -> bool
 }
 
 /// Where the one stands that is given next.
-fn place_of_next(packets: &[Packet], given: Option<u64>) -> usize
+fn place_of_next(packets: &[TextPacket], given: Option<u64>) -> usize
     requires some { 0 < length packets.now }
     ensures within { result < length packets.now }
-    ensures next { slice_get packets.now result ≡ or_first (first_after given packets.now) packets.now }
+    ensures next { slice_get packets.now result ≡ or_first (first_packet_after given packets.now) packets.now }
 {
     for place in 0..packets.len() {
         if is_after(given, packets[place].number()) {

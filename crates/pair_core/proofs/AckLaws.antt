@@ -21,7 +21,7 @@ use Rattle.pair_core.specs.Acknowledged.{greater, acked_to, greatest_acked, IsOr
 use Rattle.pair_record.specs.declared.event.Event.TheVariants.{Step, Cut}
 use Rattle.pair_record.specs.declared.event.Reply.{Reply}
 use Rattle.pair_core.specs.Drops.{LetsOut}
-use Rattle.pair_record.specs.{Journal.{kept_entries, all_entries}, Modes.{is_alone, filled}}
+use Rattle.pair_record.specs.{Journal.{kept_entries, all_entries}, Modes.{is_alone}}
 use Rattle.pair_core.specs.Pair.{Pair, shown_state, IsConsistent}
 use Rattle.pair_record.specs.Protocol.{Record, Outcome, refused, shown_at, outbox_of}
 use Rattle.pair_record.specs.{Record.start_record, Window.{NumberedFrom, IsWindow, first_after}}
@@ -30,6 +30,7 @@ use Rattle.pair_record.proofs.AloneLaws.{frames_to-all}
 use Rattle.pair_core.specs.Lines.{Lines}
 use Rattle.pair_core.proofs.{AlongLaws.along-keeps, Ends.{Ends, answers_end}, Tells.OfGuest}
 use Rattle.pair_record.specs.declared.event.Reply.TheVariants as replies
+use Rattle.failover.specs.Modes.{mode_filled}
 
 -- NUMBERS of what is pending
 
@@ -144,7 +145,7 @@ module _ (start : HistoryState) (r : Record) where
       lost = λ k. ((λ ordinary. same _ _ _ refl refl refl refl (λ l. l)), (λ ordinary. same _ _ _ refl refl refl refl (λ l. l)));
       again = λ k ordinary. same _ _ _ refl refl refl refl (λ l. l);
       commit = λ k goes ordinary. record {
-        two = ap filled mode;
+        two = ap mode_filled mode;
         cut = omega arith;
         acked = refl;
         given = λ l c. (l c).1;

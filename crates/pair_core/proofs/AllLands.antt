@@ -11,7 +11,7 @@ use Rattle.pair_record.specs.Journal.{joined, all_committed, with_history, with_
 use Rattle.pair_record.specs.Protocol.{all_held, admit_done}
 use Rattle.pair_record.specs.Record.{IsRecord, first_held, ports_landed, ports_after_all, ports_after_admit}
 use Rattle.pair_record.proofs.{AccordLaws.{sent_is, first_lone}, LoneAccords.{all_landed_accords, landed_state, landed_is}, ModeLaws.clash}
-use Rattle.pair_core.specs.internal.Invariant.{AreNodes, Holds, KeepsNothing, Stands}
+use Rattle.pair_core.specs.internal.Invariant.{AreNodes, Holds, KeepsNothing, HoldsAmid}
 use Rattle.pair_core.specs.{Nodes.{Node, Nodes, HasShape, with_arrival}, Pair.Pair}
 use Rattle.pair_core.proofs.{Consistent.{alone_is, keeps_nothing}, Events.{admit_stands, two_hold}, LineLaws.named-more}
 
@@ -19,7 +19,7 @@ use Rattle.pair_core.proofs.{Consistent.{alone_is, keeps_nothing}, Events.{admit
 abbrev pub held : Pair → List (ℕ × Frame)
 held w = all_held w.ports.boxes w.nodes.live.outbox w.protocol.state
 
-module _ (w : Pair) (h : Stands w) (mode : Mode) (lone : is_alone mode ≡ true) (window : Window) (x : Nodes)
+module _ (w : Pair) (h : HoldsAmid w) (mode : Mode) (lone : is_alone mode ≡ true) (window : Window) (x : Nodes)
     (live : x.live ≡ record w.nodes.live { outbox = [] }) (shape : x.image.shape ≡ w.nodes.image.shape)
     (cut : w.protocol.state.window.to_cut ≤ window.to_cut) (commit : w.protocol.state.window.to_commit ≤ window.to_commit) where
   -- the pair once all that was kept stands in the history, and all that was held has landed
@@ -88,7 +88,7 @@ module _ (w : Pair) (k : KeepsNothing w.protocol.state) (lone : is_alone w.proto
     nodes = record w.nodes { live = record live { outbox = [] } };
   }
 
-  pub at_once_holds : Stands if_kept → Holds at_once
+  pub at_once_holds : HoldsAmid if_kept → Holds at_once
   at_once_holds h =
       let j = w.protocol.state.journal in
       let b = w.ports.boxes in

@@ -12,7 +12,7 @@ use Rattle.pair_record.specs.{Journal.{all_entries, with_history}, Modes.is_alon
 use Rattle.pair_core.specs.{internal.Invariant.{Holds, KeepsNothing}, Nodes.{after_run, with_sent_off}}
 use Rattle.pair_record.specs.Protocol.{Record, Outcome, step_done, step_outcome, step_room}
 use Rattle.pair_record.specs.declared.event.Refusal.{Refusal}
-use Rattle.pair_core.specs.{Pair.Pair, Answering.{Answers, step_reply}, Lines.{Protocol, lines_after}}
+use Rattle.pair_core.specs.{Pair.Pair, Answering.{AnswersEvent, step_reply}, Lines.{Protocol, lines_after}}
 use Rattle.pair_core.specs.Runs.{StepsAnswer, goes_on, steps_outcome}
 use Rattle.pair_record.proofs.ModeLaws.{alone_not_stopped}
 use Rattle.pair_core.proofs.{AllLands.at_once_holds, Consistent.{live_is, alone_is}}
@@ -136,10 +136,10 @@ lines_stay old new (Err why) same = same
 
 module _ (start : HistoryState) (old new : Protocol) (answer : Result ℕ Refusal) where
   pub paired_answer : (step_reply answer, new.state) ≡ steps_outcome start old.state 1 → new.lines ≡ old.lines
-      → Answers start old Step (step_reply answer) new
+      → AnswersEvent start old Step (step_reply answer) new
   paired_answer e same = (inl (e ∙ one-step-answered start old.state), lines_stay old new answer same)
 
-  pub alone_answer : StepsAnswer start old 1 (step_reply answer) new → Answers start old Step (step_reply answer) new
+  pub alone_answer : StepsAnswer start old 1 (step_reply answer) new → AnswersEvent start old Step (step_reply answer) new
   alone_answer (inl e, same) = paired_answer e same
   alone_answer (inr k, same) =
       let made = k.2 in

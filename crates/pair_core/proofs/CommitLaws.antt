@@ -8,7 +8,7 @@ use Rattle.epoch_snapshot.specs.{Bases.IsBase, Checkpoints.Change, Images.image_
 use Rattle.backup_image.specs.declared.errors.ImageError.{ImageError}
 use Rattle.backup_image.specs.declared.errors.ImageError.TheVariants.{Stale, Gap, OldVersion, Exhausted}
 use Rattle.backup_image.specs.{declared.standing.Staged.Staged, declared.standing.Staged.TheVariants.{New, Again}}
-use Rattle.backup_image.specs.Images.{ImageState, answer_at, if_numbered, is_old_delta, stage_answer, staged_after, after_stage, committed}
+use Rattle.backup_image.specs.Images.{ImageState, answer_at, if_numbered, stage_answer, staged_after, after_stage, committed}
 use Rattle.backup_image.specs.{Kept.{kept_with, sent_with}, Limits.number_limit}
 use Rattle.pair_history.specs.Moves.{Move, guest_along, frames_along}
 use Rattle.pair_history.specs.laws.Moves.{guest_along-append}
@@ -16,6 +16,7 @@ use Rattle.pair_record.specs.internal.Accords.{all_moves}
 use Rattle.pair_core.specs.internal.Invariant.{AreNodes, IsBacked}
 use Rattle.pair_core.specs.{Nodes.{Nodes, machine_of, with_commit, first_text, later_texts, read_as}, Texts.IsText}
 use Rattle.pair_core.proofs.NodesLaws.{shape-moves, reads-as, first-sealed, later-sealed}
+use Rattle.epoch_snapshot.specs.Checkpoints.{is_old_delta}
 
 -- the image that a new checkpoint makes
 abbrev pub taken_in : ImageState → Change → ImageState

@@ -13,7 +13,7 @@ use Rattle.pair_history.specs.laws.Moves.{moved, at-moves, sent_along-moves, Leg
 use Rattle.pair_record.specs.internal.Accords.{all_moves, Accords}
 use Rattle.pair_core.specs.internal.Invariant.{first_moves, AreSealed, IsBacked, Holds, KeepsNothing}
 use Rattle.pair_record.specs.{Journal.{joined, first_of, kept_entries}, Modes.is_alone}
-use Rattle.pair_core.specs.Pair.{Pair, shown_state, live_state, HasBackup, ImageFollows, IsAlone, InMode, is_of_guest, IsConsistent}
+use Rattle.pair_core.specs.Pair.{Pair, shown_state, live_state, HasBackup, ImageFollows, RunsAlone, InMode, is_of_guest, IsConsistent}
 use Rattle.pair_record.specs.Protocol.{outbox_of}
 use Rattle.pair_record.specs.Record.{IsRecord, AreNumbered, SuitsMode}
 use Rattle.pair_core.specs.Texts.{IsText, AreTexts}
@@ -48,7 +48,7 @@ of_guest (Steps ∷ ms) = All-cons IsOfGuest Ran (entries_of ms) refl (of_guest 
 of_guest (Arrives n f ∷ ms) = All-cons IsOfGuest (Arrive n) (entries_of ms) refl (of_guest ms)
 
 -- where a node is alone
-pub lone : (mode : Mode) (w : Pair) → is_alone mode ≡ true → InMode mode w → IsAlone w
+pub lone : (mode : Mode) (w : Pair) → is_alone mode ≡ true → InMode mode w → RunsAlone w
 lone Alone w e m = m
 lone other w e m = absurd (cc)
 
@@ -108,7 +108,7 @@ module _ (w : Pair) (h : Holds w) where
   pub keeps_nothing : IsRecord w.protocol.state → is_alone w.protocol.state.mode ≡ true → KeepsNothing w.protocol.state
   keeps_nothing k alone = ((k.alone alone).0, h.still alone, (k.alone alone).1)
 
-  pub alone_is : KeepsNothing w.protocol.state → IsAlone w
+  pub alone_is : KeepsNothing w.protocol.state → RunsAlone w
   alone_is k = search (arith, rules, outbox_is)
 
   pub in_mode : IsRecord w.protocol.state → InMode w.protocol.state.mode w

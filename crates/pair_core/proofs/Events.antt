@@ -9,13 +9,13 @@ use Rattle.frame_ports.specs.{Lands.list_of, Ports.empty_ports}
 use Rattle.pair_history.specs.{Entries.{Frame, Entry}, HistoryState.{start_state}}
 use Rattle.pair_history.specs.Moves.{Move, Arrives, entries_of, guest_along, frames_along, left, AllCan}
 use Rattle.pair_history.specs.laws.Moves.{guest_along-append, frames_along-append}
-use Rattle.pair_record.specs.{internal.Accords.{AreClients, all_moves}, Journal.{with_running}, Modes.{is_alone, filled}}
+use Rattle.pair_record.specs.{internal.Accords.{AreClients, all_moves}, Journal.{with_running}, Modes.{is_alone}}
 use Rattle.pair_record.specs.{Protocol.{cut_done, commit_done}, Record.{IsRecord, AreNumbered, ports_after_admit}, Window.with_cut}
 use Rattle.pair_record.specs.Window.{with_commit as with_commit_window}
 use Rattle.pair_record.proofs.AccordLaws.{kept_now, left_now, moves_accord, arrival_accords, mode_accords}
 use Rattle.pair_record.proofs.AccordLaws.{first_sends, some_moves, some_held, shown_after, commit_with, start_accords}
 use Rattle.pair_record.proofs.{ModeLaws.{clash, filled_alone}, LoneAccords.cut_accords}
-use Rattle.pair_core.specs.internal.Invariant.{first_moves, AreSealed, AreNodes, Holds, Stands}
+use Rattle.pair_core.specs.internal.Invariant.{first_moves, AreSealed, AreNodes, Holds, HoldsAmid}
 use Rattle.pair_core.specs.Lines.{Lines, packet, with_back, start_protocol, AreNamed}
 use Rattle.pair_core.specs.{Pair.{Pair, shown_state}, Texts.IsText}
 use Rattle.pair_core.specs.Nodes.{Node, HasShape, machine_of, start_nodes, with_arrival, with_sealed, with_commit}
@@ -25,6 +25,7 @@ use Rattle.pair_core.proofs.NodesLaws.{reads-version, reads-frames}
 use Rattle.pair_core.proofs.{CommitLaws.{change, frames-are, image-commit, keeps-nothing, nodes-commit}, LineLaws.{named-more, named-back}}
 use Rattle.pair_core.proofs.KeptLaws.{commit_fits, keeps_commit, keeps_cut, keeps_none, keeps_on, risen-same}
 use Rattle.backup_image.specs.Images.{ImageState}
+use Rattle.failover.specs.Modes.{mode_filled}
 
 -- THE GUEST GOES ON by moves, in the epoch that runs
 
@@ -61,7 +62,7 @@ module _ (w : Pair) (h : Holds w) (ms : List Move) (live : Node)
   pub moves_stand : (es : List Entry) (inboxes : List (List (ℕ × Frame))) → es ≡ entries_of ms
       → AllCan (left_now w.start w.protocol.state w.ports h.accords) ms
       → AreClients (shown_state w) (left (left_now w.start w.protocol.state w.ports h.accords) ms) (record w.ports { inboxes = inboxes })
-      → Stands (record w {
+      → HoldsAmid (record w {
         protocol = record w.protocol { state = record w.protocol.state { journal = with_running w.protocol.state.journal es } };
         ports = record w.ports { inboxes = inboxes };
         nodes = record w.nodes { live = live };
@@ -77,14 +78,14 @@ module _ (w : Pair) (h : Holds w) (ms : List Move) (live : Node)
       )
 
 -- in a pair that is all
-pub two_hold : (w : Pair) → is_alone w.protocol.state.mode ≡ false → Stands w → Holds w
+pub two_hold : (w : Pair) → is_alone w.protocol.state.mode ≡ false → HoldsAmid w → Holds w
 two_hold w two h = record { accords = h.0; lines = h.2; nodes = h.1; kept = h.3; still = λ alone. absurd (clash (is_alone w.protocol.state.mode) alone two) }
 
 -- Admit: the first frame of a client arrives
 
 pub admit_stands : (w : Pair) (h : Holds w) (c n : ℕ) (f : Frame) → 1 ≤ c → c ≤ length w.ports.boxes
     → slice_get (list_of w.ports.inboxes c) 0 ≡ Some (n, f)
-    → Stands (record w {
+    → HoldsAmid (record w {
       protocol = record w.protocol { state = record w.protocol.state { journal = with_running w.protocol.state.journal (entries_of (Arrives n f ∷ [])) } };
       ports = ports_after_admit w.ports c;
       nodes = with_arrival w.nodes f;
@@ -198,12 +199,12 @@ module _ (w : Pair) (h : Holds w) (k : IsRecord w.protocol.state) (numbered : Ar
           let s = shown_state w in
           let n = r.window.to_commit in
           let ran = h.accords.journal.running_moves in
-          let same : is_alone (filled r.mode) ≡ is_alone r.mode = filled_alone r.mode in
-          let now : AreNodes (is_alone (filled r.mode)) r.generation n s.guest (ms ∷ mss) ran w.nodes =
+          let same : is_alone (mode_filled r.mode) ≡ is_alone r.mode = filled_alone r.mode in
+          let now : AreNodes (is_alone (mode_filled r.mode)) r.generation n s.guest (ms ∷ mss) ran w.nodes =
           rw same (subst (λ (x : List (List Move)). AreNodes (is_alone r.mode) r.generation n s.guest x ran w.nodes) p h.nodes) in
           let shown = shown_after w.start r w.ports h.accords k ms mss p in
           let held = some_held w.start r w.ports h.accords k (some_moves w.start r w.ports h.accords k more) in
-          let lone : Bool = is_alone (filled r.mode) in
+          let lone : Bool = is_alone (mode_filled r.mode) in
           let not : lone ≡ false = same ∙ two in
           let c = change lone r.generation n s.guest ms mss ran w.nodes now not in
           let frames : c.frames ≡ held.0.frames =
@@ -218,7 +219,7 @@ module _ (w : Pair) (h : Holds w) (k : IsRecord w.protocol.state) (numbered : Ar
                 named-back (commit_done r).1 w.protocol.lines (named-more r w.protocol.lines h.lines (with_commit_window r.window) (omega arith)
                 (omega arith)) n (omega arith);
             nodes =
-                subst (λ (g : Guest). AreNodes (is_alone (filled r.mode)) r.generation (n + 1) g mss ran (with_commit w.nodes))
+                subst (λ (g : Guest). AreNodes (is_alone (mode_filled r.mode)) r.generation (n + 1) g mss ran (with_commit w.nodes))
                 (ap (λ t. t.guest) (sym shown))
                 (nodes-commit lone r.generation n s.guest ms mss ran w.nodes now not fits);
             kept = λ e. keeps_commit r w.ports w.nodes.image keeps k numbered.held held.0 held.1 held.2 c frames full (with_commit w.nodes).image

@@ -9,7 +9,7 @@ use Rattle.pair_record.specs.{declared.event.Event.Event, declared.event.Event.T
 use Rattle.pair_record.specs.{declared.event.Refusal.Refusal, declared.event.Reply.Reply, Modes.is_alone}
 use Rattle.pair_core.specs.Nodes.{Nodes}
 use Rattle.pair_record.specs.Protocol.{Record, Outcome, refused}
-use Rattle.pair_core.specs.Replication.{to_come, number_after, next_number, IsCut, IsCommit, KeepsBackup, Replicates}
+use Rattle.pair_core.specs.Replication.{to_come, number_after, next_number, NodesCut, IsCommit, KeepsBackup, Replicates}
 use Rattle.pair_record.proofs.ModeLaws.{backup_goes, stop_goes}
 use Rattle.pair_core.specs.Lines.{Lines}
 use Rattle.pair_core.proofs.Ends.{Ends}
@@ -36,7 +36,7 @@ next-same x y e = ap (λ (s : ImageState). number_after s.stands_at) (sym e)
 pub stays_kept : (x y : Nodes) → KeepsBackup x y → Stays x y
 stays_kept x y k number g p j e = search (arith, rules, next-same)
 
-stays_cut : (n : ℕ) (x y : Nodes) → IsCut n x y → Stays x y
+stays_cut : (n : ℕ) (x y : Nodes) → NodesCut n x y → Stays x y
 stays_cut n x y k number g p j e =
     ap (λ (gs : List Guest). slice_get gs j) k.last
     ∙ place-more (to_come x) (x.live.guest ∷ []) j g (p j (ap (λ (n : ℕ). n + j) (next-same x y k.image) ∙ e))

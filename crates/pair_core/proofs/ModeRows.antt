@@ -8,7 +8,7 @@ use Rattle.pair_record.specs.declared.event.Event.{Event}
 use Rattle.pair_record.specs.declared.event.Event.TheVariants.{FailPrimary, FailBackup, GoLive, Protect}
 use Rattle.pair_record.specs.{declared.event.Refusal.Refusal, declared.event.Refusal.TheVariants.NoMemory, declared.event.Reply.Reply}
 use Rattle.pair_record.specs.Modes.{change_refusal, mode_refusal}
-use Rattle.pair_core.specs.{Answering.{Answers, AnswersIn}, Lines.{Lines, Protocol, got}, ModeChanges.{event_of, LeavesMode}}
+use Rattle.pair_core.specs.{Answering.{AnswersEvent, AnswersIn}, Lines.{Lines, Protocol, got}, ModeChanges.{event_of, LeavesMode}}
 use Rattle.pair_record.specs.Protocol.{Record, Outcome, allowed, outcome, or_else, first_refusal, refused, shown_at, outbox_of}
 use Rattle.pair_record.specs.Protocol.{fail_primary_done, fail_backup_refusals, fail_backup_done, go_live_refusals, go_live_done}
 use Rattle.pair_record.specs.Protocol.{protect_refusals, protect_done}
@@ -113,7 +113,7 @@ module _ (start : HistoryState) (r : Record) where
       (λ goes. by_rows Protect (first_refusal (protect_refusals r)) (protect_done r) (λ none. (1, protects r.mode goes, refl)))
   event_left l other = (outcome_ends start r l Other (others l) other).2
 
-pub mode_left : (start : HistoryState) (old new : Protocol) (event : Event) (reply : Reply) → Answers start old event reply new
+pub mode_left : (start : HistoryState) (old new : Protocol) (event : Event) (reply : Reply) → AnswersEvent start old event reply new
     → LeavesMode event old.state reply new.state
 mode_left start old new event reply a = by_answer a.0
   where

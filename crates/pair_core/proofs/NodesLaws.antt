@@ -7,7 +7,7 @@ use Rattle.guest_machine.specs.{Dirty.is_in, declared.shapes.Shape.Shape, Guest.
 use Rattle.guest_machine.specs.{Limits.most_pages, Runs.{after_steps, marked_in, sent_in}}
 use Rattle.guest_machine.proofs.{ApartLemmas.arrived-apart, ListedLemmas.run-listed}
 use Rattle.guest_machine.proofs.MemoryLemmas.{boot-kept, next-kept, arrived-kept, next-disk_bytes}
-use Rattle.epoch_snapshot.specs.{Bases.{IsBase, IsCut}, Checkpoints.Change, Cuts.sector_of, Images.image_of}
+use Rattle.epoch_snapshot.specs.{Bases.{IsBase, IsCheckpointOver}, Checkpoints.Change, Cuts.sector_of, Images.image_of}
 use Rattle.checkpoint_stream.specs.{declared.place.Place.TheVariants.Whole, ReadBack.ReadsBack, Readings.{begun, fed}, Sound.change_in}
 use Rattle.pair_history.specs.Entries.{Frame}
 use Rattle.pair_history.specs.Moves.{Move, Steps, Arrives, guest_along, frames_along}
@@ -15,7 +15,7 @@ use Rattle.pair_history.specs.laws.Moves.{guest_along-append}
 use Rattle.pair_record.specs.internal.Accords.{all_moves}
 use Rattle.pair_record.proofs.AccordLaws.{all_moves-push}
 use Rattle.pair_core.specs.internal.Invariant.{first_moves, AreSealed, AreNodes, IsBacked}
-use Rattle.pair_core.specs.Nodes.{Node, Nodes, HasShape, node_of, machine_of, just_settled, start_nodes, after_run, with_arrival}
+use Rattle.pair_core.specs.Nodes.{Node, Nodes, HasShape, node_of, machine_of, settled_node, start_nodes, after_run, with_arrival}
 use Rattle.pair_core.specs.{Nodes.{with_sealed, first_text, later_texts, read_as}, Texts.IsText}
 
 -- Sizes
@@ -76,7 +76,7 @@ base-after_run n x b h =
 pub base-with_arrival : (f : Frame) (x : Nodes) (b : Guest) → IsBase (machine_of x.live) b → IsBase (machine_of (with_arrival x f).live) b
 base-with_arrival f x b h = search (arith, rules, arrived-apart)
 
-pub base-settled : (g : Guest) → IsBase (machine_of (just_settled g)) g
+pub base-settled : (g : Guest) → IsBase (machine_of (settled_node g)) g
 base-settled g = record { ram = refl; size = refl; sectors = λ i low none. refl }
 
 -- Texts
@@ -119,13 +119,13 @@ same-shape s t p q =
 
 -- a machine's delta is of its shape
 cut-shape : (old listed : List ℕ) (sent : List Frame) (m : State) (generation number : ℕ) (c : Change) (shape : Shape)
-    → IsCut old listed sent m generation number c
+    → IsCheckpointOver old listed sent m generation number c
     → HasShape shape m.guest → c.shape ≡ shape
 cut-shape old listed sent m generation number c shape cut sized = search (arith, rules, same-shape)
 
 -- the text of a machine's delta makes the machine's guest of the one that the machine was last settled at, and carries what was cut
 pub delta-text : (old listed : List ℕ) (sent : List Frame) (m : State) (generation number : ℕ) (c : Change) (shape : Shape)
-    (text : List ℕ) (base : Guest) → IsCut old listed sent m generation number c → ReadsBack c text → image_of c base ≡ m.guest → HasShape shape m.guest
+    (text : List ℕ) (base : Guest) → IsCheckpointOver old listed sent m generation number c → ReadsBack c text → image_of c base ≡ m.guest → HasShape shape m.guest
     → IsText shape generation number base m.guest sent text
 delta-text old listed sent m generation number c shape text base cut reads image sized = search (arith, rules, cut-shape)
 

@@ -2,7 +2,7 @@
 use Rattle.std.proofs.Common.{◌≡◌, ℕ, zero, suc, ◌+◌, ◌-◌, ◌<◌, ◌≤◌, List, [], ◌∷◌, ◌++◌, length, refl, sym, ap, ◌∙◌, arith, append_assoc}
 use Rattle.std.proofs.{Common.{Bool, true, false, cond}, lemmas.List.Elements.{All-head, All-tail}}
 use Rattle.std.specs.{Prelude.{All, nat_lt, slice_index_or}, List.filter}
-use Rattle.frame_ports.specs.{Addresses.{clients_of, paired_with, targets_of}, Numbers.{number_of, is_new}, Ports.PortsState}
+use Rattle.frame_ports.specs.{Addresses.{clients_of, paired_with, targets_of}, Numbers.{last_come, is_new}, Ports.PortsState}
 use Rattle.output_gate.specs.{Epochs.frames_of, Landings.{AreOld, clients_for}}
 use Rattle.backup_image.specs.Images.{ImageState}
 use Rattle.pair_history.specs.{Entries.Frame, HistoryState.HistoryState}
@@ -21,12 +21,12 @@ new-append p first (f ∷ fs) gs =
     ∙ sym (append_assoc here (new_targets p (first + 1) fs) (new_targets p (first + length (f ∷ fs)) gs))
 
 -- a client for whom the frame came already isn't among them
-none-new : (p : PortsState) (n : ℕ) (cs : List ℕ) → All (λ c. n ≤ number_of p c) cs → filter (λ c. is_new p c n) cs ≡ []
+none-new : (p : PortsState) (n : ℕ) (cs : List ℕ) → All (λ c. n ≤ last_come p c) cs → filter (λ c. is_new p c n) cs ≡ []
 none-new p n [] old = refl
 none-new p n (c ∷ cs) old =
-    let low : is_new p c n ≡ false = grind (arith, All-head (λ c. n ≤ number_of p c) c cs old) in
+    let low : is_new p c n ≡ false = grind (arith, All-head (λ c. n ≤ last_come p c) c cs old) in
     (λ i. cond (low i) (c ∷ filter (λ c. is_new p c n) cs) (filter (λ c. is_new p c n) cs))
-    ∙ none-new p n cs (All-tail (λ c. n ≤ number_of p c) c cs old)
+    ∙ none-new p n cs (All-tail (λ c. n ≤ last_come p c) c cs old)
 
 old-none : (p : PortsState) (first : ℕ) (fs : List Frame) → AreOld p first fs → new_targets p first fs ≡ []
 old-none p first [] old = refl
@@ -36,17 +36,17 @@ old-none p first (f ∷ fs) old =
 
 -- where none with that number or a later one came for anyone, all are
 module _ (p : PortsState) where
-  all-new : (n : ℕ) → ((c : ℕ) → number_of p c < n) → (cs : List ℕ) → filter (λ c. is_new p c n) cs ≡ cs
+  all-new : (n : ℕ) → ((c : ℕ) → last_come p c < n) → (cs : List ℕ) → filter (λ c. is_new p c n) cs ≡ cs
   all-new n below [] = refl
   all-new n below (c ∷ cs) =
       let high : is_new p c n ≡ true = grind (arith, below c) in
       (λ i. cond (high i) (c ∷ filter (λ c. is_new p c n) cs) (filter (λ c. is_new p c n) cs))
       ∙ ap (λ ds. c ∷ ds) (all-new n below cs)
 
-  new-all : (n : ℕ) → ((c : ℕ) → number_of p c < n) → (fs : List Frame) → new_targets p n fs ≡ targets_of (length p.boxes) fs
+  new-all : (n : ℕ) → ((c : ℕ) → last_come p c < n) → (fs : List Frame) → new_targets p n fs ≡ targets_of (length p.boxes) fs
   new-all n below [] = refl
   new-all n below (f ∷ fs) =
-      let later : (c : ℕ) → number_of p c < n + 1 = λ c. let b = below c in omega arith in
+      let later : (c : ℕ) → last_come p c < n + 1 = λ c. let b = below c in omega arith in
       (λ i. paired_with (all-new n below (clients_for p f) i) f ++ new-all (n + 1) later fs i)
 
 -- where every number is below it, so is each client's

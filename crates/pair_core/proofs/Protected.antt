@@ -3,12 +3,12 @@ use Rattle.std.proofs.Common.{◌≡◌, ℕ, ◌+◌, ◌<◌, List, [], ◌∷
 use Rattle.guest_machine.specs.Guest.{Guest}
 use Rattle.epoch_snapshot.specs.{Bases.IsBase, Images.image_of}
 use Rattle.std.proofs.Math.Path.{transport}
-use Rattle.frame_ports.specs.{Limits.number_limit, Numbers.marked}
+use Rattle.frame_ports.specs.{Limits.number_limit, Numbers.renumbered}
 use Rattle.pair_history.specs.Moves.{Move, entries_of}
 use Rattle.pair_history.specs.HistoryState.{HistoryState}
 use Rattle.pair_record.specs.Protocol.{protect_done}
 use Rattle.pair_record.proofs.ProtectAccords.{lives, protect_accords}
-use Rattle.pair_core.specs.{internal.Invariant.{AreNodes, Holds, KeepsNothing}, Nodes.{HasShape, machine_of, just_settled, with_protected}}
+use Rattle.pair_core.specs.{internal.Invariant.{AreNodes, Holds, KeepsNothing}, Nodes.{HasShape, machine_of, settled_node, with_protected}}
 use Rattle.pair_core.specs.{Pair.{Pair, shown_state}, Texts.IsText}
 use Rattle.pair_core.proofs.{Consistent.live_is, KeptLaws.keeps_none, LineLaws.named-next, NodesLaws.{base-settled, reads-as}}
 
@@ -26,7 +26,7 @@ module _ (w : Pair) (h : Holds w) (k : KeepsNothing w.protocol.state) (last : w.
     → IsText w.nodes.image.shape (w.protocol.state.generation + 1) 0 before w.nodes.live.guest [] text) where
   pub protect_holds : Holds (record w {
     protocol = record w.protocol { state = (protect_done w.protocol.state).1 };
-    ports = marked w.ports;
+    ports = renumbered w.ports;
     nodes = with_protected w.nodes text;
   })
   protect_holds =
@@ -56,7 +56,7 @@ module _ (w : Pair) (h : Holds w) (k : KeepsNothing w.protocol.state) (last : w.
           staged = refl;
           image_shape = subst (HasShape shape) guest h.nodes.shape;
           sealed = (subst (λ (g : Guest). IsText shape (r.generation + 1) 0 s.guest g [] text) guest (is s.guest), tt);
-          base = subst (IsBase (machine_of (just_settled live))) guest (base-settled live);
+          base = subst (IsBase (machine_of (settled_node live))) guest (base-settled live);
         };
         live = guest;
         outbox = refl;
@@ -71,6 +71,6 @@ module _ (w : Pair) (h : Holds w) (k : KeepsNothing w.protocol.state) (last : w.
         nodes =
             transport (λ i. AreNodes false (r.generation + 1) 0 s.guest (sealed i ++ [] ∷ []) (running i) (with_protected w.nodes text))
             nodes;
-        kept = λ two. keeps_none (protect_done r).1 (marked w.ports) (with_protected w.nodes text).image refl refl refl refl;
+        kept = λ two. keeps_none (protect_done r).1 (renumbered w.ports) (with_protected w.nodes text).image refl refl refl refl;
         still = λ e. absurd (cc);
       }

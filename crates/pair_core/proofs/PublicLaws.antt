@@ -16,7 +16,7 @@ use Rattle.pair_history.specs.laws.Moves.{DropsNone-moves}
 use Rattle.pair_record.specs.{declared.event.Event.Event, declared.event.Event.TheVariants.{Step, FailBackup}}
 use Rattle.pair_record.specs.declared.event.Refusal.{Refusal}
 use Rattle.pair_record.specs.{declared.event.Refusal.TheVariants.NoMemory, declared.event.Reply.Reply}
-use Rattle.pair_core.specs.Answering.{Answers, MayWantMemory}
+use Rattle.pair_core.specs.Answering.{AnswersEvent, MayWantMemory}
 use Rattle.pair_record.specs.{Journal.{first_of, kept_entries}, Modes.is_alone}
 use Rattle.pair_core.specs.{Drops.{DropsOnly, LetsOut, Drops}, internal.Invariant.Holds}
 use Rattle.pair_record.specs.{Protocol.{outcome, step_entries}, Record.IsRecord}
@@ -152,7 +152,7 @@ module _ (w : Pair) (h : Holds w) (k : IsRecord w.protocol.state) where
       admit-lets c n false is = none_out
       admit-lets c n true is = λ d. (refl, All-nil NotGivenUp)
 
-  pub answers_drop : (event : Event) (reply : Reply) (new : Protocol) → Answers w.start w.protocol event reply new
+  pub answers_drop : (event : Event) (reply : Reply) (new : Protocol) → AnswersEvent w.start w.protocol event reply new
       → Drops w.start w.protocol event reply new
   answers_drop event reply new a =
       let grown = answers_end w.start w.protocol.state w.protocol.lines _ drops_all event reply new.state a.0 in
@@ -173,14 +173,14 @@ module _ (old new : Pair) (event : Event) (o : Result Reply MemoryWanted) (reply
       ≡ outcome old.start old.protocol.state (got old.protocol.lines event) event)
       → OnErr o (MayWantMemory old.protocol.state (outcome old.start old.protocol.state (got old.protocol.lines event) event))
       → IfOk o (λ r. new.protocol.lines ≡ lines_after old.protocol r) → OnErr o (new ≡ old)
-      → Answers old.start old.protocol event reply new.protocol
+      → AnswersEvent old.start old.protocol event reply new.protocol
   answers_by_outcome = by_result o ok err
     where
       by_result : (o : Result Reply MemoryWanted) → IfOk o (λ r. reply ≡ r) → OnErr o (reply ≡ replies.Refused (NoMemory wanted))
           → IfOk o (λ r. (r, new.protocol.state) ≡ outcome old.start old.protocol.state (got old.protocol.lines event) event)
           → OnErr o (MayWantMemory old.protocol.state (outcome old.start old.protocol.state (got old.protocol.lines event) event))
           → IfOk o (λ r. new.protocol.lines ≡ lines_after old.protocol r) → OnErr o (new ≡ old)
-          → Answers old.start old.protocol event reply new.protocol
+          → AnswersEvent old.start old.protocol event reply new.protocol
       by_result (Ok r) k e d m l f = (
         inl (ap (λ (x : Reply). (x, new.protocol.state)) k ∙ d),
         l ∙ ap (lines_after old.protocol) (sym k),

@@ -10,15 +10,16 @@ use Rattle.pair_history.specs.laws.Histories.{at-append}
 use Rattle.pair_record.specs.declared.event.{Event.Event, Event.TheVariants.{Cut, BackupGet, FailBackup, GoLive, Protect}, Refusal.Refusal}
 use Rattle.pair_record.specs.declared.event.Reply.TheVariants as replies
 use Rattle.pair_record.specs.Journal.{joined, kept_entries, first_of, rest_of}
-use Rattle.pair_record.specs.Modes.{is_alone, filled}
+use Rattle.pair_record.specs.Modes.{is_alone}
 use Rattle.pair_core.specs.Lines.{packet, with_back}
 use Rattle.pair_core.specs.Nodes.{Nodes, Fills, with_sealed, with_commit, with_protected, read_as}
 use Rattle.pair_record.specs.Protocol.{cut_done, commit_done}
 use Rattle.pair_core.specs.Pair.{Pair, HasBackup, ImageFollows, InMode, shown_state, live_state}
 use Rattle.pair_record.specs.Record.{IsRecord, SuitsMode}
-use Rattle.pair_core.specs.Replication.{guests_of, to_come, number_after, next_number, IsCut, IsCommit, IsProtected, Replicates}
+use Rattle.pair_core.specs.Replication.{guests_of, to_come, number_after, next_number, NodesCut, IsCommit, IsProtected, Replicates}
 use Rattle.pair_core.specs.Texts.{IsText, AreTexts}
 use Rattle.pair_core.proofs.NodesLaws.{reads-as}
+use Rattle.failover.specs.Modes.{mode_filled}
 
 -- the guests at the ends of epochs
 abbrev ends : HistoryState → List (List Entry) → List Guest
@@ -81,11 +82,11 @@ module _ (w : Pair) where
   next-number other two m s = ap number_after m.1.stands_at ∙ omega arith
 
   -- a commit makes a pair
-  filled-follows : (mode : Mode) → is_alone mode ≡ false → InMode (filled mode) w → ImageFollows w
+  filled-follows : (mode : Mode) → is_alone mode ≡ false → InMode (mode_filled mode) w → ImageFollows w
   filled-follows Alone two m = absurd (cc)
   filled-follows other two m = m.1
 
-pub filled-pairs : (mode : Mode) → is_alone mode ≡ false → is_alone (filled mode) ≡ false
+pub filled-pairs : (mode : Mode) → is_alone mode ≡ false → is_alone (mode_filled mode) ≡ false
 filled-pairs Alone e = absurd (cc)
 filled-pairs Filling e = refl
 filled-pairs other e = refl
@@ -106,7 +107,7 @@ after_commit w = record w {
 
 module _ (w : Pair) (k : IsRecord w.protocol.state) (two : is_alone w.protocol.state.mode ≡ false) (now : InMode w.protocol.state.mode w) where
   pub cut_replicates : (text : List ℕ) → InMode w.protocol.state.mode (after_cut w text) → (live_state w).guest ≡ w.nodes.live.guest
-      → IsCut w.protocol.state.window.to_cut w.nodes (with_sealed w.nodes text)
+      → NodesCut w.protocol.state.window.to_cut w.nodes (with_sealed w.nodes text)
   cut_replicates text then live =
       let j = w.protocol.state.journal in
       let s = shown_state w in
@@ -125,14 +126,14 @@ module _ (w : Pair) (k : IsRecord w.protocol.state) (two : is_alone w.protocol.s
         place = omega arith;
       }
 
-  pub commit_replicates : InMode (filled w.protocol.state.mode) (after_commit w) → w.protocol.state.window.to_commit < w.protocol.state.window.to_cut
+  pub commit_replicates : InMode (mode_filled w.protocol.state.mode) (after_commit w) → w.protocol.state.window.to_commit < w.protocol.state.window.to_cut
       → IsCommit w.protocol.state.generation w.protocol.state.window.to_commit w.nodes (with_commit w.nodes)
   commit_replicates then more =
       let j = w.protocol.state.journal in
       let s = shown_state w in
       let n = w.protocol.state.window.to_commit in
       let follows = filled-follows (after_commit w) w.protocol.state.mode two then in
-      let ended = to_come-ends (after_commit w) (filled w.protocol.state.mode) (filled-pairs w.protocol.state.mode two) then in
+      let ended = to_come-ends (after_commit w) (mode_filled w.protocol.state.mode) (filled-pairs w.protocol.state.mode two) then in
       let counted = k.sealed in
       let shown : shown_state (after_commit w) ≡ at s (first_of j.sealed) = at-append w.start j.history (first_of j.sealed) in
       let first : ends s j.sealed ≡ (at s (first_of j.sealed)).guest ∷ ends (at s (first_of j.sealed)) (rest_of j.sealed) =

@@ -10,7 +10,7 @@ use Rattle.pair_history.specs.{Entries.{Frame, Ran}, HistoryState.HistoryState}
 use Rattle.pair_history.specs.Moves.{Steps, guest_along, frames_along}
 use Rattle.pair_record.specs.{declared.event.Refusal.Refusal, declared.event.Refusal.TheVariants.{Stopped, CutNeeded, Exhausted}}
 use Rattle.pair_record.specs.{Journal.{all_entries, with_running, with_moves}, Limits.lone_step_entries}
-use Rattle.pair_core.specs.internal.Invariant.{Holds, Stands}
+use Rattle.pair_core.specs.internal.Invariant.{Holds, HoldsAmid}
 use Rattle.pair_record.specs.Modes.{is_stopped, is_alone}
 use Rattle.pair_core.specs.{Nodes.after_run, Pair.Pair}
 use Rattle.pair_record.specs.Protocol.{step_outcome, outbox_of, step_room, step_entries, Record, Outcome, first_refusal, or_else, refused}
@@ -56,7 +56,7 @@ frames-steps (suc n) g = ap (λ t. sent g ++ t) (frames-steps n (next g))
 
 -- What they leave
 
-pub steps_stand : (n : ℕ) (w : Pair) → Holds w → Stands (with_steps n w)
+pub steps_stand : (n : ℕ) (w : Pair) → Holds w → HoldsAmid (with_steps n w)
 steps_stand n w h =
     let ws = left_now w.start w.protocol.state w.ports h.accords in
     moves_stand w h (replicate n Steps) (after_run n w.nodes).live

@@ -40,8 +40,8 @@ AnswersIn start old packet event reply new =
     ⊎ (MayWantMemory old (outcome start old packet event) × (reply ≡ replies.Refused (NoMemory wanted)) × (new ≡ old))
 
 -- The same with the lines: the packet is its line's, and what the answer says was sent is on its line.
-abbrev pub Answers : HistoryState → Protocol → Event → Reply → Protocol → Type 0
-Answers start old event reply new =
+abbrev pub AnswersEvent : HistoryState → Protocol → Event → Reply → Protocol → Type 0
+AnswersEvent start old event reply new =
     AnswersIn start old.state (got old.lines event) event reply new.state × (new.lines ≡ lines_after old reply)
 
 -- what a step answers, as a reply

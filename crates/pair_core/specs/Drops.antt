@@ -12,7 +12,7 @@ use Rattle.pair_record.specs.declared.event.Reply.TheVariants.{Acked, Dropped, L
 use Rattle.pair_record.specs.Journal.{kept_entries}
 use Rattle.pair_record.specs.Modes.{is_alone}
 use Rattle.pair_record.specs.Protocol.{Record, shown_at, let_go}
-use Rattle.pair_core.specs.Answering.{Answers}
+use Rattle.pair_core.specs.Answering.{AnswersEvent}
 use Rattle.pair_core.specs.Lines.{Protocol}
 
 -- What an event may drop, where the history and what the guest did ahead of it were so, and the history grows by these entries: a loss
@@ -46,7 +46,7 @@ LetsOut start r event reply es = LeaveInOrder (shown_at start r) es []
 
 -- An event, answered so, makes the history grow by entries that drop what it may drop, and let out what it may let out.
 pub record Drops (start : HistoryState) (old : Protocol) (event : Event) (reply : Reply) (new : Protocol) : Type 0 where
-  pub answers : Answers start old event reply new
+  pub answers : AnswersEvent start old event reply new
   pub entries : List Entry
   pub grows : new.state.journal.history ≡ old.state.journal.history ++ entries
   pub only : DropsOnly start old.state event reply entries

@@ -8,8 +8,8 @@ use Rattle.pair_record.specs.declared.event.Event.{Event}
 use Rattle.pair_record.specs.declared.event.Event.TheVariants.{FailPrimary, FailBackup, GoLive, Protect}
 use Rattle.pair_record.specs.declared.event.Reply.{Reply}
 use Rattle.pair_record.specs.declared.event.Reply.TheVariants as replies
-use Rattle.pair_record.specs.Modes.{filled}
 use Rattle.pair_record.specs.Protocol.{Record}
+use Rattle.failover.specs.Modes.{mode_filled}
 
 -- the event that makes a change
 abbrev pub event_of : Change → Event
@@ -25,7 +25,7 @@ GoesByRow change old reply new = (raise : ℕ) × (row change old.mode ≡ Ok (n
 
 -- the mode after an event that makes no change, by its answer
 abbrev pub LeavesFilled : Record → Reply → Record → Type 0
-LeavesFilled old (replies.Committed generation number) new = new.mode ≡ filled old.mode
+LeavesFilled old (replies.Committed generation number) new = new.mode ≡ mode_filled old.mode
 LeavesFilled old reply new = new.mode ≡ old.mode
 
 -- what each event leaves

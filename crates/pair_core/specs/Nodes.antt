@@ -28,8 +28,8 @@ abbrev pub machine_of : Node → State
 machine_of x = record { guest = x.guest; outbox = x.outbox; dirty = x.dirty; settled = x.settled; written = [] }
 
 -- one of which nothing is left to do
-abbrev pub just_settled : Guest → Node
-just_settled g = record { guest = g; outbox = []; dirty = []; settled = g.ram }
+abbrev pub settled_node : Guest → Node
+settled_node g = record { guest = g; outbox = []; dirty = []; settled = g.ram }
 
 -- a guest has the size of a machine of this shape, and what its devices keep meets the rules of their records
 pub record HasShape (shape : Shape) (g : Guest) : Type 0 where
@@ -52,7 +52,7 @@ pub record Housed : Type 0 where
 -- both nodes boot
 abbrev pub start_nodes : Shape → List ℕ → Nodes
 start_nodes shape image = record {
-  live = just_settled (boot_guest shape.pages shape.sectors image);
+  live = settled_node (boot_guest shape.pages shape.sectors image);
   image = booted shape image;
   sealed = [];
 }
@@ -77,7 +77,7 @@ with_arrival x f = record x { live = record x.live { guest = arrived x.live.gues
 
 -- a checkpoint's text was sealed, and the live machine settled
 abbrev pub with_sealed : Nodes → List ℕ → Nodes
-with_sealed x text = record x { live = just_settled x.live.guest; sealed = x.sealed ++ text ∷ [] }
+with_sealed x text = record x { live = settled_node x.live.guest; sealed = x.sealed ++ text ∷ [] }
 
 abbrev pub first_text : List (List ℕ) → List ℕ
 first_text [] = []
@@ -104,11 +104,11 @@ abbrev pub left_alone : Nodes → Nodes
 left_alone x = record (without_backup x) { live = record x.live { outbox = [] } }
 
 abbrev pub gone_live : Nodes → Nodes
-gone_live x = record (without_backup x) { live = just_settled x.image.guest }
+gone_live x = record (without_backup x) { live = settled_node x.image.guest }
 
 -- a new backup: its image is empty, and this is the text of the full checkpoint, at which the live machine is settled
 abbrev pub with_protected : Nodes → List ℕ → Nodes
-with_protected x text = record x { live = just_settled x.live.guest; image = empty_image x.image.shape; sealed = text ∷ [] }
+with_protected x text = record x { live = settled_node x.live.guest; image = empty_image x.image.shape; sealed = text ∷ [] }
 
 -- The image is empty and keeps no frame, and the oldest text is a full checkpoint: it makes the guest g, whatever guest it is applied to.
 pub record Fills (g : Guest) (x : Nodes) : Type 0 where

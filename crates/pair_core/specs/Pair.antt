@@ -66,7 +66,7 @@ pub record HasBackup (w : Pair) : Type 0 where
       (shown_state w) w.protocol.state.journal.sealed w.nodes.sealed
 
 -- What holds where a node is alone: nothing is kept, pending, held or in the outbox.
-pub record IsAlone (w : Pair) : Type 0 where
+pub record RunsAlone (w : Pair) : Type 0 where
   pub kept : kept_entries w.protocol.state.journal ≡ []
   pub pending : w.protocol.state.pending ≡ []
   pub outbox : w.nodes.live.outbox ≡ []
@@ -75,7 +75,7 @@ pub record IsAlone (w : Pair) : Type 0 where
 abbrev pub InMode : Mode → Pair → Type 0
 InMode Paired w = HasBackup w × ImageFollows w
 InMode Filling w = HasBackup w × ImageFills w
-InMode Alone w = IsAlone w
+InMode Alone w = RunsAlone w
 InMode Stopped w = HasBackup w × ImageFollows w
 
 -- whether the guest did it: a step, or a frame's arrival

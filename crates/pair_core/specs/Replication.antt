@@ -13,7 +13,7 @@ use Rattle.pair_record.specs.Modes.{is_alone}
 use Rattle.pair_core.specs.Nodes.{Nodes, read_as}
 use Rattle.pair_core.specs.Pair.{Pair, IsConsistent}
 use Rattle.pair_core.specs.Along.{Along}
-use Rattle.pair_core.specs.Answering.{Answers}
+use Rattle.pair_core.specs.Answering.{AnswersEvent}
 use Rattle.pair_core.specs.Drops.{Drops}
 
 -- the guests that these texts of checkpoints make, one after another, the first of them of the guest g (Remus, 2008: each checkpoint is
@@ -40,7 +40,7 @@ next_number x = number_after x.image.stands_at
 
 -- A cut of a checkpoint: the last guest that the image will be is the one that the live machine was before the cut and still is. As
 -- many checkpoints before it are to be committed as there are guests to come, and the image stays.
-pub record IsCut (number : ℕ) (old new : Nodes) : Type 0 where
+pub record NodesCut (number : ℕ) (old new : Nodes) : Type 0 where
   pub last : to_come new ≡ to_come old ++ old.live.guest ∷ []
   pub live : new.live.guest ≡ old.live.guest
   pub image : new.image ≡ old.image
@@ -82,7 +82,7 @@ IsLive old new = (new.live.guest ≡ old.image.guest) × LosesBackup new
 -- that goes live is its image's guest, one that fails is gone, a new one takes the live guest first, and no other event touches the
 -- image or what is to come.
 abbrev pub Replicates : Event → Reply → Nodes → Nodes → Type 0
-Replicates Cut (replies.Cut generation number) old new = IsCut number old new
+Replicates Cut (replies.Cut generation number) old new = NodesCut number old new
 Replicates (BackupGet k) (replies.Committed generation number) old new = IsCommit generation number old new
 Replicates FailBackup (replies.Alone generation landed) old new = LosesBackup new
 Replicates GoLive (replies.Live generation steps) old new = IsLive old new
@@ -92,7 +92,7 @@ Replicates event reply old new = KeepsBackup old new
 -- An event, answered so, leads from the pair old to new.
 pub record Does (old : Pair) (event : Event) (reply : Reply) (new : Pair) : Type 0 where
   pub start : new.start ≡ old.start
-  pub answers : Answers old.start old.protocol event reply new.protocol
+  pub answers : AnswersEvent old.start old.protocol event reply new.protocol
   pub consistent : IsConsistent new
   pub drops : Drops old.start old.protocol event reply new.protocol
   pub replicates : Replicates event reply old.nodes new.nodes

@@ -12,13 +12,13 @@ use Rattle.pair_record.specs.Modes.{is_alone}
 use Rattle.pair_core.specs.Nodes.{after_run}
 use Rattle.pair_record.specs.Protocol.{Record, Outcome, live_at, refused, step_outcome}
 use Rattle.pair_core.specs.Along.{Along}
-use Rattle.pair_core.specs.Answering.{Answers, MayWantMemory}
+use Rattle.pair_core.specs.Answering.{AnswersEvent, MayWantMemory}
 use Rattle.pair_core.specs.Lines.{Protocol}
 use Rattle.pair_core.specs.Pair.{Pair}
 
 -- These events, one after another, may be answered so, and lead from the protocol's record old to new.
 abbrev pub Run : HistoryState → Protocol → List Event → List Reply → Protocol → Type 0
-Run start old events replies new = Along (Answers start) old events replies new
+Run start old events replies new = Along (AnswersEvent start) old events replies new
 
 -- one more of several steps, after the answer of those before: a refusal ends them
 abbrev pub goes_on : HistoryState → Reply → Record → Outcome

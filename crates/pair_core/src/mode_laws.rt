@@ -5,7 +5,7 @@ ghost use Rattle.failover.specs.declared.mode.Mode.{Mode};
 ghost use Rattle.pair_history.specs.HistoryState.{HistoryState};
 ghost use Rattle.pair_record.specs.declared.event.Event.{Event};
 ghost use Rattle.pair_record.specs.declared.event.Reply.{Reply};
-ghost use Rattle.pair_core.specs.Answering.{Answers};
+ghost use Rattle.pair_core.specs.Answering.{AnswersEvent};
 ghost use Rattle.pair_core.specs.ModeChanges.{event_of, LeavesMode};
 ghost use Rattle.pair_record.specs.Modes.{mode_refusal, change_refusal};
 ghost use Rattle.pair_core.specs.Lines.{Protocol};
@@ -16,5 +16,5 @@ ghost use Rattle.pair_core.specs.Lines.{Protocol};
 pub fn modes_change_by_failovers_table()
     ensures refused { (change : Change) (mode : Mode) → mode_refusal mode (event_of change) ≡ change_refusal change mode }
     ensures leaves { (start : HistoryState) (old new : Protocol) (event : Event) (reply : Reply)
-        → Answers start old event reply new → LeavesMode event old.state reply new.state }
+        → AnswersEvent start old event reply new → LeavesMode event old.state reply new.state }
 {}

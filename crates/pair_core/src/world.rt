@@ -51,7 +51,7 @@ impl World {
     ghost use Rattle.pair_history.specs.HistoryState.{start_state};
     ghost use Rattle.pair_record.specs.Modes.{mode_refusal};
     ghost use Rattle.pair_record.specs.Protocol.{allowed, outcome, step_outcome};
-    ghost use Rattle.pair_core.specs.Answering.{Answers, MayWantMemory, step_reply};
+    ghost use Rattle.pair_core.specs.Answering.{AnswersEvent, MayWantMemory, step_reply};
     ghost use Rattle.pair_core.specs.Leaves.{Leaves};
     ghost use Rattle.pair_core.specs.Pair.{Pair, OnRefused, IsConsistent};
     ghost use Rattle.pair_core.specs.Lines.{Protocol, start_protocol, got};
@@ -109,7 +109,7 @@ impl World {
     /// memory was asked for and refused; a step of a pair, and an event that changes nothing, takes none.
     pub fn apply(&mut self, event: Event<'_>) -> Reply
         // The reply and the next record are the protocol's.
-        ensures answers { Answers self.old.start self.old.protocol event.entry result self.new.protocol }
+        ensures answers { AnswersEvent self.old.start self.old.protocol event.entry result self.new.protocol }
         ensures start { self.new.start ≡ self.old.start }
         ensures refused { OnRefused result self.old self.new }
 
@@ -187,7 +187,7 @@ impl World {
 
     /// What each event may drop is known before it happens.
     fn keep_drops(&self)
-        ensures { (event : Event) (reply : Reply) (new : Protocol) → Answers self.now.start self.now.protocol event reply new
+        ensures { (event : Event) (reply : Reply) (new : Protocol) → AnswersEvent self.now.start self.now.protocol event reply new
             → Drops self.now.start self.now.protocol event reply new }
     {
         self.record.keep();

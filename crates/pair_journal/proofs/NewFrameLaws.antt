@@ -3,7 +3,7 @@ use Rattle.std.proofs.Common.{◌≡◌, ◌≢◌, ℕ, suc, ◌+◌, ◌<◌, 
 use Rattle.std.proofs.{Common.{arith, Bool, true, false, cond}, lemmas.List.length-append, Math.Seq.drop-cons}
 use Rattle.std.proofs.lemmas.List.Elements.{All-head, All-tail}
 use Rattle.std.specs.Prelude.{All, nat_lt}
-use Rattle.frame_ports.specs.{Addresses.clients_of, Numbers.{number_of, is_new, landing, after_landing}, Ports.PortsState}
+use Rattle.frame_ports.specs.{Addresses.clients_of, Numbers.{last_come, is_new, landing, after_landing}, Ports.PortsState}
 use Rattle.frame_ports.specs.Lands.{has_room}
 use Rattle.frame_ports.specs.declared.landing.Landing.TheVariants.{In, Dropped, Old}
 use Rattle.output_gate.specs.Landings.{clients_for, landed_for, AreRising}
@@ -14,7 +14,7 @@ use Rattle.pair_journal.specs.internal.NewFrames.{new_one, new_for, new_after}
 -- what the law `one_frame_lands` says
 pub record FrameLands : Type 0 where
   pub rise : (p : PortsState) (f : Frame) → AreRising (clients_for p f)
-  pub others : (p : PortsState) (c n : ℕ) (f : Frame) (d : ℕ) → 1 ≤ c → 1 ≤ d → d ≢ c → number_of (after_landing p c n f) d ≡ number_of p d
+  pub others : (p : PortsState) (c n : ℕ) (f : Frame) (d : ℕ) → 1 ≤ c → 1 ≤ d → d ≢ c → last_come (after_landing p c n f) d ≡ last_come p d
   pub clients : (p : PortsState) (cs : List ℕ) (n : ℕ) (f : Frame) → length (landed_for p cs n f).boxes ≡ length p.boxes
   pub later : (p : PortsState) (cs : List ℕ) (n : ℕ) (f : Frame) (d m : ℕ) → n < m → is_new (landed_for p cs n f) d m ≡ is_new p d m
 

@@ -13,7 +13,7 @@ use Rattle.pair_record.specs.Modes.{is_stopped, is_alone, primary_refusal, backu
 use Rattle.pair_record.specs.Protocol.{Outcome, first_refusal, cut_refusals, cut_done, send_done, allowed, outcome, refused, or_else}
 use Rattle.pair_record.specs.Protocol.{backup_refusals, backup_outcome, backup_done}
 use Rattle.pair_record.proofs.{RecordLaws.{cut_record, commit_record}, NumberLaws.{sealed_numbers, commit_numbers}}
-use Rattle.pair_core.specs.{Answering.Answers, Lines.{packet, packet_of, with_forward, with_back, got}, Nodes.{HasShape, machine_of}}
+use Rattle.pair_core.specs.{Answering.AnswersEvent, Lines.{packet, packet_of, with_forward, with_back, got}, Nodes.{HasShape, machine_of}}
 use Rattle.pair_core.specs.{Pair.Pair, Service.{Serves, HasServed, moment}, Texts.IsText}
 use Rattle.pair_core.proofs.{Consistent.consistent, PublicLaws.answers_drop, ServiceLaws.serves, ReplicationLaws.{after_cut, after_commit}}
 use Rattle.pair_core.proofs.{Events.{cut_holds, commit_holds, lines_hold}, LineLaws.{named-sent, named-back}, Outcomes.{goes, cut_sight}}
@@ -21,14 +21,14 @@ use Rattle.pair_nodes.specs.Matching.{Kept}
 
 -- an event that is answered as the protocol says serves the clients
 pub event_serves : (w v : Pair) (event : Event) (reply : Reply) → Kept w → Kept v → v.start ≡ w.start
-    → Answers w.start w.protocol event reply v.protocol → Serves w.start (moment w) event reply (moment v)
+    → AnswersEvent w.start w.protocol event reply v.protocol → Serves w.start (moment w) event reply (moment v)
 event_serves w v event reply k n same answers =
     serves w v event reply same (consistent w k.holds k.record_is k.numbered) (consistent v n.holds n.record_is n.numbered)
     (answers_drop w k.holds k.record_is event reply v.protocol answers)
 
 -- so it is a run of one event
 pub one_event : (w v : Pair) (event : Event) (reply : Reply) → Kept w → Kept v → v.start ≡ w.start
-    → Answers w.start w.protocol event reply v.protocol → HasServed w.start (moment w) (event ∷ []) (reply ∷ []) (moment v)
+    → AnswersEvent w.start w.protocol event reply v.protocol → HasServed w.start (moment w) (event ∷ []) (reply ∷ []) (moment v)
 one_event w v event reply k n same answers = (moment v, event_serves w v event reply k n same answers, refl)
 
 -- the modes in which both nodes run, and in which a standby does
@@ -68,7 +68,7 @@ module _ (w : Pair) (k : Kept w) (runs : is_stopped w.protocol.state.mode ≡ fa
         clients = k.clients;
       }
 
-  pub cut_answers : Answers w.start w.protocol Cut (replies.Cut w.protocol.state.generation w.protocol.state.window.to_cut) (after_cut w text).protocol
+  pub cut_answers : AnswersEvent w.start w.protocol Cut (replies.Cut w.protocol.state.generation w.protocol.state.window.to_cut) (after_cut w text).protocol
   cut_answers =
       let r = w.protocol.state in
       let done = cut_done w.nodes.live.outbox r in
@@ -92,7 +92,7 @@ module _ (w : Pair) (k : Kept w) (runs : is_stopped w.protocol.state.mode ≡ fa
     clients = k.clients;
   }
 
-  pub send_answers : Answers w.start w.protocol Send (replies.Sent (length w.protocol.state.pending)) after_send.protocol
+  pub send_answers : AnswersEvent w.start w.protocol Send (replies.Sent (length w.protocol.state.pending)) after_send.protocol
   send_answers = (inl (in_mode w Send None (send_done w.protocol.state) (both_go w.protocol.state.mode runs two) refl), refl)
 
 -- BACKUPGET

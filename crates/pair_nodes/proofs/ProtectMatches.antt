@@ -2,7 +2,7 @@
 use Rattle.std.proofs.Common.{◌≡◌, ℕ, ◌+◌, ◌<◌, ◌≤◌, List, [], ◌∷◌, ◌++◌, length, refl, sym, ap, ◌∙◌, subst, arith, true, false, inl, None, Some}
 use Rattle.std.proofs.{Common.{Bool, cond}, lemmas.List.length-replicate}
 use Rattle.failover.specs.declared.mode.{Mode.TheVariants.{Alone}}
-use Rattle.frame_ports.specs.{Limits.number_limit, Numbers.marked, Ports.PortsState}
+use Rattle.frame_ports.specs.{Limits.number_limit, Numbers.renumbered, Ports.PortsState}
 use Rattle.output_gate.specs.{Epochs.frames_of, Landings.ports_after}
 use Rattle.output_gate.specs.laws.Ports.{boxes_count-after, numbers_count-after}
 use Rattle.pair_record.specs.declared.event.{Packet.Packet, Event.TheVariants.{FailBackup, Protect}, Refusal.TheVariants.Exhausted}
@@ -35,7 +35,7 @@ module _ (w : Pair) (kept texts : List (List ℕ)) (acks : List Packet) (out : O
   abbrev backed : Pair
   backed = record w {
     protocol = record w.protocol { state = (protect_done w.protocol.state).1 };
-    ports = marked w.ports;
+    ports = renumbered w.ports;
     nodes = with_protected w.nodes text;
   }
 

@@ -2,7 +2,7 @@
 use Rattle.std.proofs.Common.{◌≡◌, ℕ, ◌≤◌, [], ◌∷◌, refl, sym, ap, ◌∙◌, subst, arith, Bool, true, false, None, Some, Ok, Err}
 use Rattle.std.specs.Prelude.{◌==◌, ◌&&◌, not, nat_lt, nat_le, if◌then◌else◌, Option, Result}
 use Rattle.std.proofs.lemmas.Bool.Decides.{nat_tests}
-use Rattle.backup_image.specs.Images.{ImageState, answer_at, stage_answer, after_stage, committed, is_old_delta, staged_after, applied, if_numbered}
+use Rattle.backup_image.specs.Images.{ImageState, answer_at, stage_answer, after_stage, committed, staged_after, applied, if_numbered}
 use Rattle.backup_image.specs.Kept.{sent_with}
 use Rattle.backup_image.specs.Limits.{number_limit}
 use Rattle.backup_image.specs.declared.errors.ImageError.{ImageError}
@@ -10,7 +10,7 @@ use Rattle.backup_image.specs.declared.errors.ImageError.TheVariants.{OldVersion
 use Rattle.backup_image.specs.declared.standing.Standing.{Standing}
 use Rattle.backup_image.specs.declared.standing.Staged.{Staged}
 use Rattle.backup_image.specs.declared.standing.Staged.TheVariants.{New}
-use Rattle.epoch_snapshot.specs.Checkpoints.{Change}
+use Rattle.epoch_snapshot.specs.Checkpoints.{Change, is_old_delta}
 use Rattle.pair_record.specs.Tables.{first_refusal}
 use Rattle.pair_record.specs.declared.event.Refusal.{Refusal}
 use Rattle.pair_core.specs.Replication.{number_after}

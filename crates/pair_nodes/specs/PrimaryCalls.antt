@@ -15,14 +15,14 @@ use Rattle.pair_record.specs.Tables.{Row}
 use Rattle.pair_record.specs.declared.event.Packet.{Packet}
 use Rattle.pair_record.specs.declared.event.Refusal.{Refusal}
 use Rattle.pair_record.specs.declared.event.Refusal.TheVariants.{BadFrame, NotPaired, AlreadyPaired, Stale, Gap, CutNeeded, Exhausted}
-use Rattle.pair_core.specs.Nodes.{just_settled}
+use Rattle.pair_core.specs.Nodes.{settled_node}
 use Rattle.pair_nodes.specs.Refusing.{IsFree, IsWhy}
-use Rattle.pair_nodes.specs.Sides.{Primary, after_run, cut_rows, IsCut, IsFull, after_protect}
+use Rattle.pair_nodes.specs.Sides.{Primary, after_run, cut_rows, PrimaryCuts, IsFull, after_protect}
 
 -- A PRIMARY BOOTS from this image: it is alone, in the first generation
 abbrev pub booted_primary : Shape → List ℕ → Primary
 booted_primary shape image = record {
-  live = just_settled (boot_guest shape.pages shape.sectors image);
+  live = settled_node (boot_guest shape.pages shape.sectors image);
   shape = shape;
   generation = 1;
   backed = false;
@@ -75,7 +75,7 @@ pub record IsSealed (p : Primary) (count : ℕ) (q : Primary) : Type 0 where
   pub free : IsFree (cut_refusals p)
   pub text : List ℕ
   pub bytes : count ≡ length text
-  pub cut : IsCut p text q
+  pub cut : PrimaryCuts p text q
 
 -- THE TEXTS of the pending checkpoints have consecutive numbers, up to that of the last one cut
 abbrev pub first_pending : Primary → ℕ

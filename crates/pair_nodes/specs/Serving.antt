@@ -15,7 +15,7 @@ use Rattle.pair_record.specs.declared.event.Event.{Event}
 use Rattle.pair_record.specs.declared.event.Reply.{Reply}
 use Rattle.pair_record.specs.Modes.{is_alone, is_stopped}
 use Rattle.pair_core.specs.Calls.{Moment, ahead_of}
-use Rattle.pair_core.specs.Nodes.{just_settled}
+use Rattle.pair_core.specs.Nodes.{settled_node}
 use Rattle.pair_core.specs.Service.{HasServed}
 use Rattle.pair_nodes.specs.Frames.{AreLetOut}
 use Rattle.pair_nodes.specs.{PrimaryCalls.booted_primary, Sides.new_standby}
@@ -28,7 +28,7 @@ abbrev pub start_site : Shape → List ℕ → ℕ → Site
 start_site shape image clients = record {
   mode = Paired;
   primary = record {
-    live = just_settled (boot_guest shape.pages shape.sectors image);
+    live = settled_node (boot_guest shape.pages shape.sectors image);
     shape = shape;
     generation = 1;
     backed = true;

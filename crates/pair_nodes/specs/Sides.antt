@@ -18,7 +18,7 @@ use Rattle.pair_record.specs.declared.event.Refusal.TheVariants.{Behind, Exhaust
 use Rattle.pair_record.specs.Tables.{Row, first_refusal}
 use Rattle.pair_record.specs.declared.event.Packet.{Packet}
 use Rattle.pair_core.specs.Lines.{packet}
-use Rattle.pair_core.specs.Nodes.{Node, HasShape, machine_of, just_settled}
+use Rattle.pair_core.specs.Nodes.{Node, HasShape, machine_of, settled_node}
 use Rattle.pair_core.specs.Replication.{number_after}
 use Rattle.pair_core.specs.Texts.{IsText}
 
@@ -75,7 +75,7 @@ IsDelta p text =
 
 abbrev pub after_cut : Primary → List ℕ → Primary
 after_cut p text = record p {
-  live = just_settled p.live.guest;
+  live = settled_node p.live.guest;
   to_cut = p.to_cut + 1;
   pending = p.pending ++ record { number = p.to_cut; frames = p.live.outbox } ∷ [];
   texts = p.texts ++ text ∷ [];
@@ -83,7 +83,7 @@ after_cut p text = record p {
 }
 
 -- the epoch of the primary p is cut, by a checkpoint of this text, and leaves q
-pub record IsCut (p : Primary) (text : List ℕ) (q : Primary) : Type 0 where
+pub record PrimaryCuts (p : Primary) (text : List ℕ) (q : Primary) : Type 0 where
   pub free : first_refusal (cut_rows p) ≡ None
   pub few : length p.live.outbox ≤ 256
   pub delta : IsDelta p text
@@ -118,7 +118,7 @@ IsFull p text =
 
 abbrev pub after_protect : Primary → List ℕ → Primary
 after_protect p text = record p {
-  live = just_settled p.live.guest;
+  live = settled_node p.live.guest;
   generation = p.generation + 1;
   backed = true;
   to_cut = 1;
@@ -174,7 +174,7 @@ restarted b = record b { reading = begun b.image.shape 0 }
 -- IT GOES LIVE, in the next generation
 abbrev pub live_of : Standby → Primary
 live_of b = record {
-  live = just_settled b.image.guest;
+  live = settled_node b.image.guest;
   shape = b.image.shape;
   generation = b.generation + 1;
   backed = false;

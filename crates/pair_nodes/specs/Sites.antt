@@ -17,12 +17,12 @@ use Rattle.checkpoint_stream.specs.{Sound.change_in, declared.place.Place.TheVar
 use Rattle.pair_record.specs.declared.event.Packet.{Packet}
 use Rattle.pair_record.specs.declared.event.Refusal.{Refusal}
 use Rattle.pair_record.specs.Tables.{first_refusal}
-use Rattle.pair_record.specs.Modes.{filled}
 use Rattle.pair_core.specs.Lines.{packet}
 use Rattle.pair_nodes.specs.Sides.{Primary, Standby, cut_rows, IsDelta, after_cut, let_out, after_ack, to_commit, after_commit, after_piece, restarted}
 use Rattle.pair_nodes.specs.StandbyCalls.{commit_rows}
 use Rattle.pair_nodes.specs.Sides.{new_standby, live_of, IsFull, after_protect, after_run, after_lone_run, after_arrival, after_alone, all_out}
 use Rattle.pair_nodes.specs.Networks.{Network, Output, with_frames, with_sent, without_first, with_taken, with_lost_in, with_lost_out, with_out, with_next}
+use Rattle.failover.specs.Modes.{mode_filled}
 
 pub record Site : Type 0 where
   -- which of the nodes runs
@@ -83,7 +83,7 @@ acknowledged s n = record s { acks = s.acks ++ packet s.standby.generation n ∷
 
 abbrev pub commit_site : Site → Change → Site
 commit_site s c =
-    acknowledged (record s { standby = after_commit s.standby c; mode = filled s.mode }) (to_commit s.standby)
+    acknowledged (record s { standby = after_commit s.standby c; mode = mode_filled s.mode }) (to_commit s.standby)
 
 abbrev pub again_site : Site → Site
 again_site s = acknowledged s (to_commit s.standby - 1)

@@ -2,12 +2,11 @@
 use Rattle.std.specs.Prelude.{if◌then◌else◌, ◌+◌, ◌-◌, ◌==◌, ◌&&◌, nat_le, nat_lt, Bool, List, [], ◌∷◌, ◌++◌, Option, None, Some, Result, Ok, Err}
 use Rattle.std.specs.Prelude.{option_map}
 use Rattle.failover.specs.Generations.{generation_limit}
-use Rattle.backup_image.specs.Images.{is_old_delta}
 use Rattle.backup_image.specs.Kept.{sent_with}
 use Rattle.backup_image.specs.Limits.{number_limit}
 use Rattle.checkpoint_stream.specs.Readings.{is_whole}
 use Rattle.checkpoint_stream.specs.Sound.{change_in, whole_name}
-use Rattle.epoch_snapshot.specs.Checkpoints.{Change}
+use Rattle.epoch_snapshot.specs.Checkpoints.{Change, is_old_delta}
 use Rattle.pair_record.specs.Tables.{Row, first_refusal}
 use Rattle.pair_record.specs.declared.event.Packet.{Packet}
 use Rattle.pair_record.specs.declared.event.Refusal.{Refusal}

@@ -1,6 +1,6 @@
 //! The standby: the guest as of the last checkpoint that it committed, and the generation whose checkpoints it takes.
 ghost use Rattle.std.specs.Prelude.{◌≡◌, ◌≤◌, ◌<◌, [], IfOk, IfErr, OnOk, length, option_map, vec_capacity};
-ghost use Rattle.checkpoint_stream.specs.Answers.{Answers};
+ghost use Rattle.checkpoint_stream.specs.Answers.{FeedAnswers};
 ghost use Rattle.backup_image.specs.Kept.{sent_with};
 ghost use Rattle.failover.specs.Generations.{generation_limit};
 ghost use Rattle.frame_ports.specs.Limits.{number_limit};
@@ -156,7 +156,7 @@ impl StandbyNode {
     /// [`restart`](StandbyNode::restart). [`StreamError::NoMemory`] where a growth was really refused: nothing changes then.
     #[tactic(auto, using(crate::proofs::ReadShapes::answered_shape))]
     pub fn piece(&mut self, bytes: &[u8]) -> Result<usize, StreamError>
-        ensures answers { Answers self.old.reading bytes.now result self.new.reading }
+        ensures answers { FeedAnswers self.old.reading bytes.now result self.new.reading }
         ensures rest { self.new ≡ record self.old { reading = self.new.reading } }
         ensures within { IfOk result (λ count. count ≤ length bytes.now) }
     {

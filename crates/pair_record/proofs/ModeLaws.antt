@@ -2,7 +2,8 @@
 use Rattle.std.proofs.Common.{◌≡◌, refl, Bool, true, false, None}
 use Rattle.failover.specs.{declared.mode.Mode.Mode, declared.mode.Mode.TheVariants.{Filling, Alone, Stopped}}
 use Rattle.failover.specs.declared.change.Change.TheVariants.{FailPrimary, FailBackup, GoLive, Protect}
-use Rattle.pair_record.specs.Modes.{is_stopped, is_alone, is_filling, filled, primary_refusal, backup_refusal, change_refusal}
+use Rattle.pair_record.specs.Modes.{is_stopped, is_alone, primary_refusal, backup_refusal, change_refusal}
+use Rattle.failover.specs.Modes.{is_filling, mode_filled}
 
 pub clash : (t : Bool) → t ≡ true → t ≡ false → ⊥
 clash t e f = cc
@@ -32,7 +33,7 @@ alone_not_stopped Stopped e = absurd (cc)
 alone_not_stopped other e = refl
 
 -- a commit leaves no node alone, and ends no node's being alone
-pub filled_alone : (mode : Mode) → is_alone (filled mode) ≡ is_alone mode
+pub filled_alone : (mode : Mode) → is_alone (mode_filled mode) ≡ is_alone mode
 filled_alone Filling = refl
 filled_alone other = refl
 

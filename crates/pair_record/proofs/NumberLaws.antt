@@ -5,7 +5,7 @@ use Rattle.std.proofs.{Common.{arith, Bool, true, false, cond, Option, None, Som
 use Rattle.std.proofs.lemmas.{Bool.{ltb-true, ltb-false, cases_lt}, List.{length-append, length-take, take-append-drop}}
 use Rattle.std.proofs.lemmas.List.Elements.{All-set}
 use Rattle.std.specs.Prelude.{All, nat_le, nat_lt, slice_index_or}
-use Rattle.frame_ports.specs.{Lands.{landed_at, put_count}, Numbers.{is_new, after_landing, marked}, Ports.PortsState}
+use Rattle.frame_ports.specs.{Lands.{landed_at, put_count}, Numbers.{is_new, after_landing, renumbered}, Ports.PortsState}
 use Rattle.frame_ports.specs.{Addresses.targets_of, Limits.number_limit}
 use Rattle.output_gate.specs.Epochs.{Epoch, epoch as epoch_of, frames_of, frames_to, after_number}
 use Rattle.output_gate.specs.Landings.{clients_for, landed_for, ports_after, landed_count, AreBelow}
@@ -271,7 +271,7 @@ module _ (r : Record) (p : PortsState) (h : AreNumbered r p) where
       }
 
 -- which no frame waits for, and then it is sealed, and frames are numbered anew
-pub full_numbers : (r : Record) (p : PortsState) → r.pending ≡ [] → AreNumbered (full_done r).1 (marked p)
+pub full_numbers : (r : Record) (p : PortsState) → r.pending ≡ [] → AreNumbered (full_done r).1 (renumbered p)
 full_numbers r p none =
     let e : Epoch = record { number = r.window.to_cut; frames = [] } in
     let a : length (frames_of (r.pending ++ e ∷ [])) ≡ 0 = ap (λ (es : List Epoch). length (frames_of (es ++ e ∷ []))) none in
@@ -282,7 +282,7 @@ full_numbers r p none =
       left_in_pair = λ t some. omega arith;
     }
 
-pub protect_numbers : (r : Record) (p : PortsState) → AreNumbered (protect_done r).1 (marked p)
+pub protect_numbers : (r : Record) (p : PortsState) → AreNumbered (protect_done r).1 (renumbered p)
 protect_numbers r p = full_numbers (begin_done r).1 p refl
 
 -- what is the same record with the same ports is numbered too

@@ -1,6 +1,6 @@
 -- Where a node that is alone gets a new backup: it begins to be protected, and then an empty epoch is sealed.
 use Rattle.std.proofs.Common.{◌≡◌, ◌≤◌, List, [], ◌++◌, length, take, drop, refl, sym, ap, ◌∙◌, arith}
-use Rattle.frame_ports.specs.{Addresses.targets_of, Numbers.marked, Ports.PortsState}
+use Rattle.frame_ports.specs.{Addresses.targets_of, Numbers.renumbered, Ports.PortsState}
 use Rattle.output_gate.specs.Epochs.{Epoch, frames_of}
 use Rattle.pair_history.specs.HistoryState.{HistoryState, at}
 use Rattle.std.proofs.lemmas.List.{append-nil}
@@ -14,9 +14,9 @@ use Rattle.pair_record.proofs.{AccordLaws.{numbered_accords}, EpochAccords.{take
 
 module _ (start : HistoryState) (r : Record) (p : PortsState) (h : Accords start r p) where
   -- its frames are numbered anew
-  abbrev pub full_accords : committed_count r.window ≤ length r.pending → Accords start (full_done r).1 (marked p)
+  abbrev pub full_accords : committed_count r.window ≤ length r.pending → Accords start (full_done r).1 (renumbered p)
   full_accords enough =
-      seal_accords start (record r { next_frame = first_frame }) (marked p) (numbered_accords start r p h first_frame (marked p).numbers)
+      seal_accords start (record r { next_frame = first_frame }) (renumbered p) (numbered_accords start r p h first_frame (renumbered p).numbers)
       [] h.journal.running_moves [] r.journal.running refl h.journal.running_are h.journal.can refl [] refl enough
 
   module _ (k : IsLone r) where
@@ -38,5 +38,5 @@ module _ (start : HistoryState) (r : Record) (p : PortsState) (h : Accords start
         }
 
 module _ (start : HistoryState) (r : Record) (p : PortsState) (h : Accords start r p) (k : IsLone r) where
-  abbrev pub protect_accords : Accords start (protect_done r).1 (marked p)
+  abbrev pub protect_accords : Accords start (protect_done r).1 (renumbered p)
   protect_accords = full_accords start (begin_done r).1 p (begin_accords start r p h k) (omega arith)

@@ -2,8 +2,9 @@
 -- epoch.
 use Rattle.std.proofs.{Common.{rules, ◌≡◌, arith, true, []}, lemmas.List.{length-append, nil_from_length}}
 use Rattle.pair_record.specs.Limits.{first_frame}
-use Rattle.pair_record.specs.{Modes.{is_alone, is_filling}, Protocol.{Record, begin_done, full_done, protect_done}, Record.IsRecord}
+use Rattle.pair_record.specs.{Modes.{is_alone}, Protocol.{Record, begin_done, full_done, protect_done}, Record.IsRecord}
 use Rattle.pair_record.proofs.RecordLaws.{seal_record, filling_not_alone}
+use Rattle.failover.specs.Modes.{is_filling}
 
 module _ (r : Record) (h : IsRecord r) (alone : is_alone r.mode ≡ true) where
   pub protect_record : IsRecord (protect_done r).1

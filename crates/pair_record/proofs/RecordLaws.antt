@@ -11,10 +11,11 @@ use Rattle.pair_record.specs.{declared.event.Packet.Packet, declared.event.Refus
 use Rattle.pair_journal.specs.Journal.{all_entries, rest_of, with_history}
 use Rattle.pair_record.specs.Protocol.{landed_after}
 use Rattle.pair_record.specs.Protocol.{commit_done, ack_done, Record, first_refusal, cut_refusals, ack_refusals, let_go, exhausts, cut_done}
-use Rattle.pair_record.specs.{Record.{IsRecord, IsLone, SuitsMode}, Modes.{is_alone, is_filling, filled}}
+use Rattle.pair_record.specs.{Record.{IsRecord, IsLone, SuitsMode}, Modes.{is_alone}}
 use Rattle.pair_record.specs.{Protocol.seal_done, Limits.most_pending, Window.{with_commit, with_acknowledged}}
 use Rattle.pair_record.proofs.{ModeLaws.{clash, filled_alone}}
 use Rattle.pair_record.proofs.WindowLaws.{numbered_below, cut_window, commit_window, ack_window, is_below}
+use Rattle.failover.specs.Modes.{is_filling, mode_filled}
 
 -- Tables of refusals
 
@@ -38,7 +39,7 @@ suits_later Filling w v more same h = same ∙ h
 suits_later Alone w v more same h = tt
 suits_later other w v more same h = omega arith
 
-suits_committed : (mode : Mode) (w : Window) → SuitsMode (filled mode) (with_commit w)
+suits_committed : (mode : Mode) (w : Window) → SuitsMode (mode_filled mode) (with_commit w)
 suits_committed Alone w = tt
 suits_committed other w = omega arith
 

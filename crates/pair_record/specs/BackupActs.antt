@@ -10,9 +10,9 @@ use Rattle.pair_record.specs.declared.event.Packet.{Packet}
 use Rattle.pair_record.specs.declared.event.Refusal.TheVariants.{Stale, Gap, Exhausted}
 use Rattle.pair_record.specs.declared.event.Reply.TheVariants as replies
 use Rattle.pair_journal.specs.Journal.{with_history, committed}
-use Rattle.pair_record.specs.Modes.{filled}
 use Rattle.pair_record.specs.Window.{with_commit, with_acknowledged}
 use Rattle.pair_record.specs.Tables.{Record, Sight, Outcome, Row, unless, exhausts}
+use Rattle.failover.specs.Modes.{mode_filled}
 
 -- SEND
 
@@ -37,7 +37,7 @@ abbrev pub commit_done : Record → Outcome
 commit_done r = (
   replies.Committed r.generation r.window.to_commit,
   record r {
-    mode = filled r.mode;
+    mode = mode_filled r.mode;
     journal = committed r.journal;
     window = with_commit r.window;
   },

@@ -27,20 +27,6 @@ is_alone modes.Paired = false
 is_alone modes.Filling = false
 is_alone modes.Stopped = false
 
--- whether a new backup still waits for its first checkpoint, which is a full one
-abbrev pub is_filling : Mode → Bool
-is_filling modes.Filling = true
-is_filling modes.Paired = false
-is_filling modes.Alone = false
-is_filling modes.Stopped = false
-
--- the mode once that one is committed, or any other
-abbrev pub filled : Mode → Mode
-filled modes.Filling = modes.Paired
-filled modes.Paired = modes.Paired
-filled modes.Alone = modes.Alone
-filled modes.Stopped = modes.Stopped
-
 -- what the primary does in a pair is refused where it has stopped, and where a node is alone
 abbrev pub primary_refusal : Mode → Option Refusal
 primary_refusal modes.Paired = None

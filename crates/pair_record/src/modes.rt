@@ -2,6 +2,7 @@
 ghost use Rattle.std.specs.Prelude.{◌≡◌};
 ghost use Rattle.pair_record.specs.Modes as modes;
 ghost use Rattle.pair_record.specs.Protocol.{step_room as step_entries};
+ghost use Rattle.failover.specs.Modes.{mode_filled};
 
 use crate::event::{Event, Refusal};
 use crate::limits::STEP_ENTRIES;
@@ -29,7 +30,7 @@ pub fn is_alone(mode: Mode) -> bool
 
 /// The mode once a new backup's full checkpoint is committed, or any other.
 pub(crate) fn filled(mode: Mode) -> Mode
-    ensures { result ≡ modes.filled mode }
+    ensures { result ≡ mode_filled mode }
 {
     match mode {
         Mode::Paired | Mode::Filling => Mode::Paired,

@@ -153,7 +153,7 @@ fn play(rt: &impl Abort, ports: &mut Ports, sent: &Frame, row: &Row) {
         Row::Lands(client, number, landing) => {
             assert_lands(rt, ports, *client, *number, sent, *landing);
         }
-        Row::Marked => ports.mark(),
+        Row::Marked => ports.renumber(),
     }
 }
 

@@ -3,7 +3,7 @@ use Rattle.std.specs.Prelude.{◌≡◌, ℕ, ◌+◌, ◌⊎◌, Bool, true, fa
 use Rattle.guest_machine.specs.Guest.{boot_guest}
 use Rattle.pair_history.specs.HistoryState.{HistoryState}
 use Rattle.growing_history.specs.Steps.{Step}
-use Rattle.growing_history.specs.LogState.{LogState, Legal, state_at, history_of}
+use Rattle.growing_history.specs.LogState.{LogState, LegalSteps, state_at, history_of}
 use Rattle.hypervisor.specs.Opening.{start_with}
 use Rattle.hypervisor.specs.Service.{HasOneGuest}
 use Rattle.pair_run.specs.RunFile.{Means, unbooted, says, bad}
@@ -29,7 +29,7 @@ pub record IsWhole (epochs : ℕ) (s : LogState) : Type 0 where
 pub record IsRunFrom (start : HistoryState) (lines : List ClientLine) (epochs : ℕ) (clients : List Answered) (entries : ℕ) (is_whole : Bool) :
     Type 0 where
   pub all : List Step
-  pub legal : Legal start all
+  pub legal : LegalSteps start all
   pub unmarked : (state_at start all).marked ≡ 0
   pub guest : HasOneGuest start (history_of start all)
   pub answered : AreAnswered (history_of start all) lines clients

@@ -12,7 +12,7 @@ use Rattle.std.specs.List.{position, position_or_len}
 use Rattle.std.specs.Cmp.Lexicographic.{pointwise}
 use Rattle.std.specs.Str.{all_ascii_digits}
 use Rattle.std.specs.{Str.{IsAscii, IsUtf8, Parse.{digits_value, ParsesUnsigned}}, Char.is_ascii_digit}
-use Rattle.script_player.specs.Fields.{text_after, number_of, parted}
+use Rattle.script_player.specs.Fields.{text_after, number_written, parted}
 use Rattle.script_player.specs.laws.Fields.{text_after-append, text_after-some, writes, Writes, writes_to}
 
 none_after : (front text : List ℕ) → ((rest : List ℕ) → text ≢ front ++ rest) → (o : Option (List ℕ)) → text_after front text ≡ o → o ≡ None
@@ -36,15 +36,15 @@ digits_are_ascii [] h = IsAscii-nil
 digits_are_ascii (c ∷ cs) h = let both = and_parts (is_ascii_digit c) (all_ascii_digits cs) h in
     let low : c < 128 = grind (arith, both.0) in IsAscii-cons c cs low (digits_are_ascii cs both.1)
 
-no_number : (text : List ℕ) → ¬ (Writes text) → number_of text ≡ None
+no_number : (text : List ℕ) → ¬ (Writes text) → number_written text ≡ None
 no_number text apart = rw (false_from_ne_true (writes text) (λ h. apart (writes_to text h))) refl
 
 -- text that isn't UTF-8 writes no number
-pub number-not_utf8 : (text : List ℕ) → ¬ (IsUtf8 text) → number_of text ≡ None
+pub number-not_utf8 : (text : List ℕ) → ¬ (IsUtf8 text) → number_written text ≡ None
 number-not_utf8 text apart = no_number text (λ h. apart (IsUtf8-from_ascii text (digits_are_ascii text h.0)))
 
 number_read : {E : Type 0} (text : List ℕ) (parsed : Result ℕ E) → OkIff parsed (Writes text) (digits_value 10 text)
-    → result_ok parsed ≡ number_of text
+    → result_ok parsed ≡ number_written text
 number_read text (Ok n) h =
     let some : nat_lt 0 (length text) ≡ true = grind (arith, h.0.1) in
     let fits : nat_lt (digits_value 10 text) (2 ^ 64) ≡ true = grind (arith, h.0.2) in
@@ -54,7 +54,7 @@ number_read text (Err e) h = sym (no_number text h)
 
 -- what `parse` answers, where no plus stands first
 pub number-parsed : {E : Type 0} (text : List ℕ) (parsed : Result ℕ E) → ParsesUnsigned 64 10 text parsed
-    → pointwise nat_eq (43 ∷ []) (take 1 text) ≡ false → result_ok parsed ≡ number_of text
+    → pointwise nat_eq (43 ∷ []) (take 1 text) ≡ false → result_ok parsed ≡ number_written text
 number-parsed text parsed h plus = number_read text parsed (parse_plain own 64 text parsed h (no_plus text plus))
   where
     no_plus : (text : List ℕ) → pointwise nat_eq (43 ∷ []) (take 1 text) ≡ false → get_or text 0 0 ≢ 43

@@ -9,7 +9,7 @@ use Rattle.script_player.specs.Streams.{Writing, Writes, WritesFront}
 use Rattle.script_player.specs.laws.Written.{front-after}
 use Rattle.script_player.proofs.ScriptLemmas.{front-still, front-again, written}
 use Rattle.memory_wanted.specs.Wanted.{wanted}
-use Rattle.checkpoint_stream.specs.{Answers.Answers, declared.errors.StreamError.TheVariants.{Malformed, NoMemory}}
+use Rattle.checkpoint_stream.specs.{FeedAnswers.FeedAnswers, declared.errors.StreamError.TheVariants.{Malformed, NoMemory}}
 use Rattle.checkpoint_stream.specs.{declared.place.Place.{Place, TheVariants.{Whole, Failed}}, Readings.{Reading, fed, taken, is_closed}}
 use Rattle.checkpoint_stream.specs.{Readings.failure_at, Sound.change_in}
 
@@ -47,7 +47,7 @@ listed no_memory len (suc most) r (b ∷ bs) going few =
 
 -- where the reader finds the bytes malformed, that is the last line
 pub malformed-last : (no_memory : List ℕ) (len : ℕ) (r new : Reading) (bytes printed : List ℕ) (at : ℕ)
-    → Answers r bytes (Err (Malformed at)) new → printed ≡ malformed_line at → IsLast no_memory len r bytes printed
+    → FeedAnswers r bytes (Err (Malformed at)) new → printed ≡ malformed_line at → IsLast no_memory len r bytes printed
 malformed-last no_memory len r new bytes printed at h e = record {
   end = stopped (Malformed at);
   more = λ p. cc;

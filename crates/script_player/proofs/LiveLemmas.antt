@@ -1,7 +1,7 @@
 -- A live session beside a script.
 use Rattle.std.proofs.Common.{◌≡◌, ◌+◌, ℕ, List, [], ◌∷◌, ◌++◌, refl}
 use Rattle.std.{proofs.{lemmas.List.Elements.{All-head, All-tail}}, specs.Prelude.All}
-use Rattle.script_player.specs.Live.{Answers, PlaysLine, plays, is_bad, is_refused, IsShort, LeavesOut, nothing, keeps, drops_bad, drops_refused}
+use Rattle.script_player.specs.Live.{LineAnswers, PlaysLine, plays, is_bad, is_refused, IsShort, LeavesOut, nothing, keeps, drops_bad, drops_refused}
 use Rattle.script_player.specs.Session.{is_played, is_too_long, is_not_kept, Replies, bad_answer}
 use Rattle.script_player.specs.{declared.player.Turn.Turn, internal.Playing.{IsStep, live_answer, printed_by}}
 use Rattle.script_player.specs.Meaning.{Stage, Ending, finished, Means, ends, goes_on, ends_badly, ends_refused}
@@ -10,7 +10,7 @@ use Rattle.script_player.specs.declared.player.Turn.TheVariants as turns
 -- what a script prints that ends with its last line is what its lines are answered
 pub same-by-lines : {no_memory : List ℕ} (stage : Stage) (number : ℕ) (lines : List (List ℕ)) (text : List ℕ) (ending : Ending)
     → Means no_memory stage number lines text ending → ending ≡ finished → All IsShort lines
-    → (last : Stage) × Replies (Answers no_memory) stage lines text last
+    → (last : Stage) × Replies (LineAnswers no_memory) stage lines text last
 same-by-lines stage number lines text ending (ends s n) e short = (s, (refl, refl))
 same-by-lines stage number lines text ending (goes_on s next n line first rest texts end g m) e short =
     let tail = same-by-lines next (n + 1) texts rest end m e (All-tail IsShort line texts short) in
@@ -38,13 +38,13 @@ module _ {no_memory : List ℕ} (stage next : Stage) (number : ℕ) (line first 
   by-play (is_bad b a same) h = left-out bad_answer a same (λ k p d. drops_bad line rest p lines k d) (h number)
   by-play (is_refused r a same) h = left-out no_memory a same (λ k p d. drops_refused line rest p lines k d) (h number)
 
-  by-reply : Answers no_memory stage line first next → ((n : ℕ) → HasKept no_memory lines rest next n) → HasKept no_memory (line ∷ lines) text stage number
+  by-reply : LineAnswers no_memory stage line first next → ((n : ℕ) → HasKept no_memory lines rest next n) → HasKept no_memory (line ∷ lines) text stage number
   by-reply (is_played l p) h = by-play p h
   by-reply (is_too_long l a same) h = left-out bad_answer a same (λ k p d. drops_bad line rest p lines k d) (h number)
   by-reply (is_not_kept l a same) h = left-out no_memory a same (λ k p d. drops_refused line rest p lines k d) (h number)
 
 -- without its bad lines a session prints what a script prints
-pub same-by-file : {no_memory : List ℕ} (stage last : Stage) (number : ℕ) (lines : List (List ℕ)) (text : List ℕ) → Replies (Answers no_memory) stage lines text last
+pub same-by-file : {no_memory : List ℕ} (stage last : Stage) (number : ℕ) (lines : List (List ℕ)) (text : List ℕ) → Replies (LineAnswers no_memory) stage lines text last
     → HasKept no_memory lines text stage number
 same-by-file stage last number [] text m = ([], [], rw m.0 nothing, ends stage number)
 same-by-file stage last number (line ∷ lines) text m =

@@ -4,7 +4,7 @@ use Rattle.std.proofs.{Common.{append-nil, append_assoc, subst, refl, Result, Ok
 use Rattle.std.specs.{Prelude.MatchOption, Result.IsErrAnd, Io.KnownBytes.Appends}
 use Rattle.script_player.specs.{Streams.{Writing, Writes, WritesFront, IsPut, IsPrinted}, declared.{sim.Stop.Stop, player.Turn.Turn}}
 use Rattle.script_player.specs.Meaning.{Stage, unbooted, Ending, finished, bad, refused, Means, lines_of, GoesOn, ends, goes_on, ends_badly}
-use Rattle.script_player.specs.{Meaning.{ends_refused, IsCut, IsPlayed, whole, cut_short}, internal.Playing.{lines_left, most_lines}}
+use Rattle.script_player.specs.{Meaning.{ends_refused, IsWrittenShort, IsPlayed, whole, cut_short}, internal.Playing.{lines_left, most_lines}}
 use Rattle.script_player.{specs.internal.Playing.{HasMeant, IsEnded, IsPlayedTo, IsStep, stop_of}, proofs.LineLemmas.texts}
 use Rattle.script_player.specs.laws.Options.{failed, some_same}
 use Rattle.script_player.specs.declared.sim.Stop.TheVariants as stops
@@ -96,7 +96,7 @@ module _ {no_memory : List ℕ} {stage : Stage} (next : Stage) (number : ℕ) {l
 module _ {no_memory source : List ℕ} {o m : Writing} {left : List (List ℕ)} {stage : Stage} {number : ℕ}
     (before : ArePlayed no_memory source o m left stage number) where
   -- a write fails before the next line
-  pub cut-before : {o' : Writing} → WritesFront m o' [] → IsCut no_memory source o o'
+  pub cut-before : {o' : Writing} → WritesFront m o' [] → IsWrittenShort no_memory source o o'
   cut-before {o'} w = record {
     first = before.done ++ [];
     rest = left;
@@ -127,7 +127,7 @@ module _ {no_memory source : List ℕ} {o m : Writing} {left : List (List ℕ)} 
     }
 
     -- a write fails while the next line is printed
-    pub cut-inside : (turn : Turn) → IsStep no_memory stage line turn text next → WritesFront m' o' text → IsCut no_memory source o o'
+    pub cut-inside : (turn : Turn) → IsStep no_memory stage line turn text next → WritesFront m' o' text → IsWrittenShort no_memory source o o'
     cut-inside turn step w =
         let alone = by-itself next number turn step in
         record {
@@ -168,7 +168,7 @@ stopped-so no_memory source o o' stop r e h =
 
 module _ {no_memory : List ℕ} (source : List ℕ) (o m o' : Writing) where
   -- a write fails after it: what was printed is a beginning of what it prints
-  cut-whole : (ending : Ending) → HasMeant no_memory source ending o m → WritesFront m o' [] → IsCut no_memory source o o'
+  cut-whole : (ending : Ending) → HasMeant no_memory source ending o m → WritesFront m o' [] → IsWrittenShort no_memory source o o'
   cut-whole ending h after = record {
     first = lines_of source;
     rest = [];
@@ -179,7 +179,7 @@ module _ {no_memory : List ℕ} (source : List ℕ) (o m o' : Writing) where
     front = front-still o m o' h.0 h.2 after;
   }
 
-  cut-again : IsCut no_memory source o m → WritesFront m o' [] → IsCut no_memory source o o'
+  cut-again : IsWrittenShort no_memory source o m → WritesFront m o' [] → IsWrittenShort no_memory source o o'
   cut-again cut after =
       record {
         first = cut.first;
@@ -191,7 +191,7 @@ module _ {no_memory : List ℕ} (source : List ℕ) (o m o' : Writing) where
         front = front-again o m o' cut.text cut.front after;
       }
 
-  cut-after : (r : Result Unit Stop) → IsPlayedTo no_memory source r o m → WritesFront m o' [] → IsCut no_memory source o o'
+  cut-after : (r : Result Unit Stop) → IsPlayedTo no_memory source r o m → WritesFront m o' [] → IsWrittenShort no_memory source o o'
   cut-after (Ok done) h = cut-whole finished h
   cut-after (Err (stops.Bad number)) h = cut-whole (bad number) h
   cut-after (Err stops.Refused) h = cut-whole refused h

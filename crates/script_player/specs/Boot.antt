@@ -2,7 +2,7 @@
 use Rattle.std.specs.Prelude.{◌≡◌, ℕ, ◌≤◌, ◌∷◌, [], List, Some, codes}
 use Rattle.std.specs.List.{join_with_byte}
 use Rattle.pair_core.specs.HistoryState.{HistoryState, start_state}
-use Rattle.script_player.specs.Fields.{number_of}
+use Rattle.script_player.specs.Fields.{number_written}
 use Rattle.script_player.specs.Guests.{NamedGuest, NamesGuest, GuestFits, guest_image, named_guest}
 use Rattle.script_player.specs.Limits.{most_pages, most_sectors, most_clients}
 use Rattle.script_player.specs.declared.boot.Boot.{Boot}
@@ -28,9 +28,9 @@ pub record IsBoot (text : List ℕ) (line : BootLine) : Type 0 where
   pub clients : List ℕ
   pub guest : List ℕ
   pub shape : text ≡ join_with_byte 32 (codes "boot" ∷ pages ∷ sectors ∷ clients ∷ guest ∷ [])
-  pub pages_written : number_of pages ≡ Some line.pages
-  pub sectors_written : number_of sectors ≡ Some line.sectors
-  pub clients_written : number_of clients ≡ Some line.clients
+  pub pages_written : number_written pages ≡ Some line.pages
+  pub sectors_written : number_written sectors ≡ Some line.sectors
+  pub clients_written : number_written clients ≡ Some line.clients
   pub guest_named : NamesGuest guest line.guest
   pub limits : IsInLimits line
 

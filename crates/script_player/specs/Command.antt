@@ -2,7 +2,7 @@
 use Rattle.std.specs.Prelude.{◌≡◌, ℕ, ◌≤◌, nat_eq, List, ◌∷◌, ◌++◌, Option, Some, None, codes, if◌then◌else◌}
 use Rattle.std.specs.Option.{option_map_or}
 use Rattle.std.specs.Str.{bytes_eq}
-use Rattle.script_player.specs.Fields.{number_of, numbered_by, numbers_by}
+use Rattle.script_player.specs.Fields.{number_written, numbered_by, numbers_by}
 use Rattle.pair_record.specs.declared.event.Event.{Event}
 use Rattle.pair_record.specs.declared.event.Event.TheVariants.{Cut, Send, BackupGet, AckGet, Admit, Take, LoseIn, LoseOut, FailPrimary}
 use Rattle.pair_record.specs.declared.event.Event.TheVariants.{FailBackup, GoLive, Protect}
@@ -11,13 +11,13 @@ use Rattle.script_player.specs.declared.script.Command.TheVariants.{Asks, Steps,
 
 -- the front, and digits that write n
 abbrev pub IsNumbered : List ℕ → ℕ → List ℕ → Type 0
-IsNumbered front n text = (digits : List ℕ) × (text ≡ front ++ digits) × (number_of digits ≡ Some n)
+IsNumbered front n text = (digits : List ℕ) × (text ≡ front ++ digits) × (number_written digits ≡ Some n)
 
 -- the front, digits that write m, one space, and digits that write n
 abbrev pub HasNumbers : List ℕ → ℕ → ℕ → List ℕ → Type 0
 HasNumbers front m n text =
     (first : List ℕ) × (second : List ℕ)
-    × (text ≡ front ++ (first ++ 32 ∷ second)) × (number_of first ≡ Some m) × (number_of second ≡ Some n)
+    × (text ≡ front ++ (first ++ 32 ∷ second)) × (number_written first ≡ Some m) × (number_written second ≡ Some n)
 
 -- how each event is spelled, but for a client's frame, which is a delivery, and a single step, which no line asks for
 abbrev pub IsEvent : List ℕ → Event → Type 0

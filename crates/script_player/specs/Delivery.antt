@@ -2,7 +2,7 @@
 use Rattle.std.specs.Prelude.{◌≡◌, ℕ, ◌<◌, ◌∷◌, [], List, Option, Some, codes, length, option_and_then}
 use Rattle.std.specs.List.{join_with_byte}
 use Rattle.hex.specs.Hex.{encode_lower, IsBytes}
-use Rattle.script_player.specs.Fields.{text_after, number_of, operand_of}
+use Rattle.script_player.specs.Fields.{text_after, number_written, operand_of}
 use Rattle.script_player.specs.declared.delivery.Delivery.{Delivery}
 
 -- the digits write these bytes, at least one, each as two hex digits in lower case
@@ -16,7 +16,7 @@ pub record IsDelivery (text : List ℕ) (client : ℕ) (bytes : List ℕ) : Type
   pub number : List ℕ
   pub digits : List ℕ
   pub shape : text ≡ join_with_byte 32 (codes "deliver" ∷ number ∷ digits ∷ [])
-  pub client_written : number_of number ≡ Some client
+  pub client_written : number_written number ≡ Some client
   pub bytes_written : IsHex digits bytes
 
 -- the client's number and what stands after it, read from the left

@@ -11,14 +11,14 @@ text_after (f ∷ front) [] = None
 text_after (f ∷ front) (c ∷ text) = if f == c then text_after front text else None
 
 -- the number that a text writes: only decimal digits, at least one, that stand for less than 2^64
-abbrev pub number_of : List ℕ → Option ℕ
-number_of text =
+abbrev pub number_written : List ℕ → Option ℕ
+number_written text =
     if nat_lt 0 (length text) && all_ascii_digits text && nat_lt (digits_value 10 text) (2 ^ 64)
     then Some (digits_value 10 text) else None
 
 -- the number after front
 abbrev pub numbered_by : List ℕ → List ℕ → Option ℕ
-numbered_by front text = option_and_then number_of (text_after front text)
+numbered_by front text = option_and_then number_written (text_after front text)
 
 -- the front of a text up to its first space, and what stands after that
 abbrev pub parted : List ℕ → Option (List ℕ × List ℕ)
@@ -27,7 +27,7 @@ parted (c ∷ text) = if c == 32 then Some ([], text) else option_map (λ parts.
 
 -- the number that parts gives, with the text after it
 abbrev pub number_in : List ℕ × List ℕ → Option (ℕ × List ℕ)
-number_in parts = option_map (λ n. (n, parts.1)) (number_of parts.0)
+number_in parts = option_map (λ n. (n, parts.1)) (number_written parts.0)
 
 -- a number at the front, and the text after the space that ends it
 abbrev pub operand_of : List ℕ → Option (ℕ × List ℕ)
@@ -35,7 +35,7 @@ operand_of text = option_and_then number_in (parted text)
 
 -- a number, and the one that the text after it writes
 abbrev pub with_second : ℕ × List ℕ → Option (ℕ × ℕ)
-with_second found = option_map (λ n. (found.0, n)) (number_of found.1)
+with_second found = option_map (λ n. (found.0, n)) (number_written found.1)
 
 -- two numbers after front, parted by one space
 abbrev pub numbers_by : List ℕ → List ℕ → Option (ℕ × ℕ)

@@ -7,7 +7,7 @@ use Rattle.guest_kit.specs.Image.{image_of}
 use Rattle.guest_kit.specs.Idle.{idle_program}
 use Rattle.guest_kit.specs.Beacon.{beacon_program}
 use Rattle.guest_kit.specs.Disk.{disk_program}
-use Rattle.script_player.specs.Fields.{number_of}
+use Rattle.script_player.specs.Fields.{number_written}
 use Rattle.script_player.specs.Limits.{page_bytes}
 use Rattle.script_player.specs.declared.boot.Guest.{Guest}
 use Rattle.script_player.specs.declared.boot.Guest.TheVariants as guests
@@ -34,7 +34,7 @@ pub record IsDisk (text : List ℕ) (sector byte : ℕ) : Type 0 where
   pub number : List ℕ
   pub digits : List ℕ
   pub shape : text ≡ join_with_byte 32 (codes "disk" ∷ number ∷ digits ∷ [])
-  pub sector_written : number_of number ≡ Some sector
+  pub sector_written : number_written number ≡ Some sector
   pub byte_written : digits ≡ encode_lower (byte ∷ [])
   pub below : byte < 2 ^ 8
 

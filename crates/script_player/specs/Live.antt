@@ -15,12 +15,12 @@ pub data PlaysLine (no_memory : List ℕ) (stage : Stage) (line printed : List �
   is_refused : IsRefused stage line → printed ≡ no_memory → next ≡ stage → PlaysLine no_memory stage line printed next
 
 -- how each line of a session is answered
-abbrev pub Answers : List ℕ → Stage → List ℕ → List ℕ → Stage → Type 0
-Answers no_memory = IsReply no_memory (PlaysLine no_memory)
+abbrev pub LineAnswers : List ℕ → Stage → List ℕ → List ℕ → Stage → Type 0
+LineAnswers no_memory = IsReply no_memory (PlaysLine no_memory)
 
 -- What a live session has read and printed when it ends, and its exit status.
 abbrev pub IsLive : List ℕ → Reading → Reading → Writing → Writing → ℕ → Type 0
-IsLive no_memory input input' out out' status = IsServed (Answers no_memory) unbooted input input' out out' status
+IsLive no_memory input input' out out' status = IsServed (LineAnswers no_memory) unbooted input input' out out' status
 
 -- ---- beside a script
 

@@ -150,7 +150,7 @@ IsTold (bad number) old new = Writes old new (bad_line number) ⊎ WritesFront o
 IsTold ending old new = new ≡ old
 
 -- A write to standard output failed, which got a beginning of what the first lines of a script mean.
-pub record IsCut (no_memory source : List ℕ) (out out' : Writing) : Type 0 where
+pub record IsWrittenShort (no_memory source : List ℕ) (out out' : Writing) : Type 0 where
   pub first : List (List ℕ)
   pub rest : List (List ℕ)
   pub text : List ℕ
@@ -165,4 +165,4 @@ pub data IsPlayed (no_memory source : List ℕ) (out out' err err' : Writing) (s
   whole : (text : List ℕ) (ending : Ending) → Means no_memory unbooted 1 (lines_of source) text ending → Writes out out' text
       → IsTold ending err err' → status ≡ status_of ending → IsPlayed no_memory source out out' err err' status
   -- a write to standard output fails
-  cut_short : IsCut no_memory source out out' → err' ≡ err → status ≡ 1 → IsPlayed no_memory source out out' err err' status
+  cut_short : IsWrittenShort no_memory source out out' → err' ≡ err → status ≡ 1 → IsPlayed no_memory source out out' err err' status

@@ -4,7 +4,7 @@ ghost use Rattle.std.specs.Prelude.{◌≡◌, ◌==◌, ℕ, List, length, None
 ghost use Rattle.std.specs.Char.{is_ascii_uppercase};
 ghost use Rattle.std.specs.List.{list_any};
 ghost use Rattle.hex.specs.Hex.{encode_lower, IsBytes};
-ghost use Rattle.script_player.specs.Fields.{text_after, number_of, numbered_by, numbers_by, operand_of, parted};
+ghost use Rattle.script_player.specs.Fields.{text_after, number_written, numbered_by, numbers_by, operand_of, parted};
 
 use hex::FromHex;
 
@@ -17,7 +17,7 @@ pub fn after<'a>(text: &'a [u8], front: &[u8]) -> Option<&'a [u8]>
 
 /// The number that the text writes: only decimal digits, at least one, below 2^64. Zeros may lead.
 pub fn number(text: &[u8]) -> Option<u64>
-    ensures { result ≡ number_of text.now }
+    ensures { result ≡ number_written text.now }
 {
     if text.starts_with(b"+") {
         return None;

@@ -1,7 +1,7 @@
 //! `remus live`: plays lines as they come, and answers each before it reads on.
 
 ghost use Rattle.std.specs.Prelude.{◌≡◌, ℕ, List, All};
-ghost use Rattle.script_player.specs.Live.{Answers, IsLive, PlaysLine, LeavesOut, IsShort};
+ghost use Rattle.script_player.specs.Live.{LineAnswers, IsLive, PlaysLine, LeavesOut, IsShort};
 ghost use Rattle.script_player.specs.Meaning.{Stage, Means, finished, unbooted};
 ghost use Rattle.script_player.specs.Session.{Replies};
 ghost use Rattle.script_player.specs.Streams.{IsPut};
@@ -89,9 +89,9 @@ fn print<O: Sink>(text: &[u8], turn: Turn, out: &mut O) -> Result<(), Failed>
 pub fn live_prints_what_sim_prints()
     ensures file { (no_memory : List ℕ) (stage : Stage) (number : ℕ) (lines : List (List ℕ)) (text : List ℕ)
         → Means no_memory stage number lines text finished → All IsShort lines
-        → (last : Stage) × Replies (Answers no_memory) stage lines text last }
+        → (last : Stage) × Replies (LineAnswers no_memory) stage lines text last }
     ensures session { (no_memory : List ℕ) (stage last : Stage) (number : ℕ) (lines : List (List ℕ)) (text : List ℕ)
-        → Replies (Answers no_memory) stage lines text last
+        → Replies (LineAnswers no_memory) stage lines text last
         → (kept : List (List ℕ)) × (printed : List ℕ) × LeavesOut no_memory lines text kept printed
         × Means no_memory stage number kept printed finished }
 {}

@@ -6,8 +6,8 @@ ghost use Rattle.hypervisor.specs.Opening.{start_with};
 use super::asserts::{holds, is_ack, is_number, is_refusal, same};
 use guest_machine::Unpaced;
 use hypervisor::{
-    Ack, Backup, Client, Frame, Landed, Loss, Lost, Node, Packet, Pair, Parts, Refusal, Runner,
-    Sender, UnnamedPair, Warden,
+    Ack, Backup, Client, Frame, LandedCount, Loss, Lost, Node, Pair, Parts, Refusal, Runner,
+    Sender, TextPacket, UnnamedPair, Warden,
 };
 use std::alloc::Global;
 use std::process::Abort;
@@ -65,7 +65,7 @@ pub(super) struct Hand<P: Pair> {
     backups: Vec<Option<Backup<P>>>,
     warden: Warden<P>,
     loss: Loss<P>,
-    packets: Vec<Packet>,
+    packets: Vec<TextPacket>,
 }
 
 /// A list of this alone.
@@ -188,7 +188,7 @@ pub(super) fn is_stopped<P: Pair, R: Wait + Abort>(rt: &R, runner: &mut Runner<P
 }
 
 /// The next packet.
-fn next_packet<P: Pair, R: Wait + Abort>(rt: &R, sender: &mut Sender<P>) -> Packet {
+fn next_packet<P: Pair, R: Wait + Abort>(rt: &R, sender: &mut Sender<P>) -> TextPacket {
     sender
         .next(rt)
         .expect(rt, "an answer")
@@ -215,7 +215,7 @@ fn backup<'a, P: Pair>(
 }
 
 /// The backup reads all of this packet, or nothing where it has read it.
-fn reads<P: Pair>(rt: &impl Abort, backup: &mut Backup<P>, packet: &Packet) {
+fn reads<P: Pair>(rt: &impl Abort, backup: &mut Backup<P>, packet: &TextPacket) {
     let bytes = packet.bytes();
     let count = backup.feed(bytes).expect(rt, "no refusal");
     holds(rt, "all or nothing", count == bytes.len() || count == 0);
@@ -231,7 +231,7 @@ fn committed<P: Pair, R: Wait>(rt: &R, backup: &mut Backup<P>) -> Result<(u64, u
 fn commit<P: Pair, R: Wait + Abort>(
     rt: &R,
     backup: &mut Backup<P>,
-    packet: &Packet,
+    packet: &TextPacket,
     wanted: &Result<(u64, u64), Refusal>,
 ) {
     reads(rt, backup, packet);
@@ -272,7 +272,7 @@ fn is_acked<P: Pair, R: Wait + Abort>(
 fn commit_first<P: Pair, R: Wait + Abort>(
     rt: &R,
     backups: &mut Vec<Option<Backup<P>>>,
-    packet: &Packet,
+    packet: &TextPacket,
     number: u64,
 ) {
     commit(rt, backup(rt, backups, 0), packet, &Ok((1, number)));
@@ -342,7 +342,7 @@ pub(super) fn has_entries<P: Pair, R: Wait + Abort>(rt: &R, hand: &mut Hand<P>, 
 /// This node fails, and so many frames land.
 pub(super) fn fails<P: Pair, R: Wait + Abort>(rt: &R, hand: &mut Hand<P>, node: Node, count: u64) {
     let landed = hand.warden.fail(rt, node);
-    holds(rt, "frames land", landed == Ok(Landed { count }));
+    holds(rt, "frames land", landed == Ok(LandedCount { count }));
 }
 
 fn protects<P: Pair, R: Wait + Abort>(rt: &R, hand: &mut Hand<P>) {

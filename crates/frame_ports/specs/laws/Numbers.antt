@@ -6,7 +6,7 @@ use Rattle.std.proofs.lemmas.List.{get_or-set_same, get_or-set_other, set_past}
 use Rattle.arrayvec.specs.ArrayVec.{ArrayVec}
 use Rattle.frame_ports.specs.Addresses.{IsFrame}
 use Rattle.frame_ports.specs.Lands.{has_room, landed_at}
-use Rattle.frame_ports.specs.Numbers.{number_of, is_new, landing, after_landing}
+use Rattle.frame_ports.specs.Numbers.{last_come, is_new, landing, after_landing}
 use Rattle.frame_ports.specs.Ports.{PortsState, IsPorts, IsClient}
 use Rattle.frame_ports.specs.declared.landing.Landing.TheVariants.{In, Dropped, Old}
 use Rattle.frame_ports.specs.laws.Lands.{length-landed_at, boxes-landed_at}
@@ -30,11 +30,11 @@ module _ (s : PortsState) (c n : ℕ) (f : ArrayVec ℕ) where
   landing-old old = ap (λ b. if b then (if has_room s.boxes c then In else Dropped) else Old) old
 
   -- and by the numbers
-  pub new_from : number_of s c < n → is_new s c n ≡ true
-  new_from lt = lt-ltb (number_of s c) n lt
+  pub new_from : last_come s c < n → is_new s c n ≡ true
+  new_from lt = lt-ltb (last_come s c) n lt
 
-  pub old_from : n ≤ number_of s c → is_new s c n ≡ false
-  old_from le = le-ltb (number_of s c) n le
+  pub old_from : n ≤ last_come s c → is_new s c n ≡ false
+  old_from le = le-ltb (last_come s c) n le
 
   -- a landing keeps the counts, the inboxes and the next number
   pub boxes_count : length (after_landing s c n f).boxes ≡ length s.boxes
@@ -66,31 +66,31 @@ module _ (s : PortsState) (c n : ℕ) (f : ArrayVec ℕ) where
       by_test false = refl
 
   -- the client's number rises to that of the frame, and none falls
-  pub number_reaches : c - 1 < length s.numbers → n ≤ number_of (after_landing s c n f) c
+  pub number_reaches : c - 1 < length s.numbers → n ≤ last_come (after_landing s c n f) c
   number_reaches inside = by_test (is_new s c n) refl
     where
-      by_test : (b : Bool) → is_new s c n ≡ b → n ≤ number_of (let t : PortsState = if b then landed_new else s in t) c
+      by_test : (b : Bool) → is_new s c n ≡ b → n ≤ last_come (let t : PortsState = if b then landed_new else s in t) c
       by_test true new = omega (arith, get_or-set_same s.numbers (c - 1) n 0 inside)
-      by_test false old = ltb-false (number_of s c) n old
+      by_test false old = ltb-false (last_come s c) n old
 
-  pub number_is : c - 1 < length s.numbers → number_of s c < n → number_of (after_landing s c n f) c ≡ n
-  number_is inside new = ap (λ (t : PortsState). number_of t c) (after_landing-new (new_from new))
+  pub number_is : c - 1 < length s.numbers → last_come s c < n → last_come (after_landing s c n f) c ≡ n
+  number_is inside new = ap (λ (t : PortsState). last_come t c) (after_landing-new (new_from new))
       ∙ get_or-set_same s.numbers (c - 1) n 0 inside
 
-  pub number_other : (d : ℕ) → 1 ≤ c → 1 ≤ d → d ≢ c → number_of (after_landing s c n f) d ≡ number_of s d
+  pub number_other : (d : ℕ) → 1 ≤ c → 1 ≤ d → d ≢ c → last_come (after_landing s c n f) d ≡ last_come s d
   number_other d cpos dpos other = by_test (is_new s c n)
     where
-      by_test : (b : Bool) → number_of (let t : PortsState = if b then landed_new else s in t) d ≡ number_of s d
+      by_test : (b : Bool) → last_come (let t : PortsState = if b then landed_new else s in t) d ≡ last_come s d
       by_test true = get_or-set_other s.numbers (c - 1) (d - 1) n 0 (λ e. other (omega arith))
       by_test false = refl
 
   -- a client's number after a landing: the one before, or that of the frame where it was new
-  number_cases : (d : ℕ) → (number_of (after_landing s c n f) d ≡ number_of s d)
-      ⊎ ((number_of (after_landing s c n f) d ≡ n) × (number_of s d < n))
+  number_cases : (d : ℕ) → (last_come (after_landing s c n f) d ≡ last_come s d)
+      ⊎ ((last_come (after_landing s c n f) d ≡ n) × (last_come s d < n))
   number_cases d = by_test (is_new s c n) refl
     where
-      set_cases : number_of s c < n → (slice_index_or (slice_set s.numbers (c - 1) n) (d - 1) 0 ≡ number_of s d)
-          ⊎ ((slice_index_or (slice_set s.numbers (c - 1) n) (d - 1) 0 ≡ n) × (number_of s d < n))
+      set_cases : last_come s c < n → (slice_index_or (slice_set s.numbers (c - 1) n) (d - 1) 0 ≡ last_come s d)
+          ⊎ ((slice_index_or (slice_set s.numbers (c - 1) n) (d - 1) 0 ≡ n) × (last_come s d < n))
       set_cases new =
           ⊎_elim
           (λ (same : (d - 1) ≡ (c - 1)). ⊎_elim
@@ -103,15 +103,15 @@ module _ (s : PortsState) (c n : ℕ) (f : ArrayVec ℕ) where
           (λ other. inl (get_or-set_other s.numbers (c - 1) (d - 1) n 0 other))
           (cases_eq (d - 1) (c - 1))
 
-      by_test : (b : Bool) → is_new s c n ≡ b → (number_of (let t : PortsState = if b then landed_new else s in t) d ≡ number_of s d)
-          ⊎ ((number_of (let t : PortsState = if b then landed_new else s in t) d ≡ n) × (number_of s d < n))
-      by_test true new = set_cases (ltb-true (number_of s c) n new)
+      by_test : (b : Bool) → is_new s c n ≡ b → (last_come (let t : PortsState = if b then landed_new else s in t) d ≡ last_come s d)
+          ⊎ ((last_come (let t : PortsState = if b then landed_new else s in t) d ≡ n) × (last_come s d < n))
+      by_test true new = set_cases (ltb-true (last_come s c) n new)
       by_test false old = inl refl
 
-  pub number_rises : (d : ℕ) → number_of s d ≤ number_of (after_landing s c n f) d
+  pub number_rises : (d : ℕ) → last_come s d ≤ last_come (after_landing s c n f) d
   number_rises d = ⊎_elim (λ same. omega arith) (λ raised. omega arith) (number_cases d)
 
-  pub number_at_most : (d m : ℕ) → number_of s d ≤ m → n ≤ m → number_of (after_landing s c n f) d ≤ m
+  pub number_at_most : (d m : ℕ) → last_come s d ≤ m → n ≤ m → last_come (after_landing s c n f) d ≤ m
   number_at_most d m before frame = ⊎_elim (λ same. omega arith) (λ raised. omega arith) (number_cases d)
 
   -- it leaves ports that are ports

@@ -4,7 +4,7 @@ use Rattle.std.proofs.Common.{length-append, eq-eqb, true≢false}
 use Rattle.std.specs.Prelude.{◌==◌}
 use Rattle.pair_history.specs.HistoryState.{HistoryState}
 use Rattle.growing_history.specs.Steps.{Step, Begins, steps_by}
-use Rattle.growing_history.specs.LogState.{start_of, state_after, LegalFrom, Legal}
+use Rattle.growing_history.specs.LogState.{start_of, state_after, LegalFrom, LegalSteps}
 use Rattle.growing_history.specs.laws.Prefixes.{steps_by-append}
 use Rattle.growing_history.specs.laws.Logs.{state-append, first, second}
 
@@ -37,10 +37,10 @@ module _ (h : HistoryState) (old now : List Step) (b : Begins old now) where
   same = ap (state_after (start_of h)) b.1 ∙ state-append (start_of h) old b.0
 
   -- both parts of a legal list are legal
-  pub earlier : Legal h now → LegalFrom (start_of h) old
-  unfolding Legal
+  pub earlier : LegalSteps h now → LegalFrom (start_of h) old
+  unfolding LegalSteps
   earlier l = first (start_of h) old b.0 (subst (LegalFrom (start_of h)) b.1 l)
 
-  pub later : Legal h now → LegalFrom (state_after (start_of h) old) b.0
-  unfolding Legal
+  pub later : LegalSteps h now → LegalFrom (state_after (start_of h) old) b.0
+  unfolding LegalSteps
   later l = second (start_of h) old b.0 (subst (LegalFrom (start_of h)) b.1 l)

@@ -8,9 +8,10 @@ use Rattle.pair_history.specs.HistoryState.{HistoryState}
 use Rattle.pair_history.specs.Order.{AreGuests}
 use Rattle.pair_history.specs.laws.Histories.{guests-append, guests-second}
 use Rattle.growing_history.specs.Steps.{What, Added, Sealed, RanAlone, Committed, PrimaryFailed, BackupFailed, WentLive, Protected, Step}
-use Rattle.growing_history.specs.LogState.{LogState, Epoch, start_of, IsAlone, HasBackup, IsFirstSealed, MaySeal, mode_filled, after, Needs}
+use Rattle.growing_history.specs.LogState.{LogState, Epoch, start_of, IsAlone, HasBackup, IsFirstSealed, MaySeal, after_step, Needs}
 use Rattle.growing_history.specs.SealedNumbers.{FollowFrom, AreSealed}
-use Rattle.growing_history.specs.LogState.{MayStep, entries_of, state_after, LegalFrom, Legal, state_at}
+use Rattle.growing_history.specs.LogState.{MayStep, entries_of, state_after, LegalFrom, LegalSteps, state_at}
+use Rattle.failover.specs.Modes.{mode_filled}
 
 follow-push : (n : ℕ) (es : List Epoch) (e : Epoch) → FollowFrom n es → e.number ≡ n + length es → FollowFrom n (es ++ e ∷ [])
 follow-push n [] e h k = (omega (arith, k), tt)
@@ -41,7 +42,7 @@ behind-first : (n k : ℕ) (es : List Epoch) → IsFirstSealed k es → FollowFr
 behind-first n k [] f h = absurd f
 behind-first n k (e ∷ es) f h = (h.1, omega arith)
 
-sealed-step : (s : LogState) (by : ℕ) (w : What) → Needs s (record { by = by; what = w }) → AreSealed s → AreSealed (after s w)
+sealed-step : (s : LogState) (by : ℕ) (w : What) → Needs s (record { by = by; what = w }) → AreSealed s → AreSealed (after_step s w)
 sealed-step s by (Added es) needs h = record { first = h.first; numbers = h.numbers; count = h.count; alone = h.alone }
 sealed-step s by (Sealed g zero epoch text) needs h = record {
   first = 0;
@@ -81,14 +82,14 @@ sealed-step s by (Protected b) needs h =
 
 sealed-steps : (s : LogState) (xs : List Step) → LegalFrom s xs → AreSealed s → AreSealed (state_after s xs)
 sealed-steps s [] l h = h
-sealed-steps s (x ∷ xs) l h = sealed-steps (after s x.what) xs l.1 (sealed-step s x.by x.what l.0 h)
+sealed-steps s (x ∷ xs) l h = sealed-steps (after_step s x.what) xs l.1 (sealed-step s x.by x.what l.0 h)
 
-pub are-sealed : (h : HistoryState) (xs : List Step) → Legal h xs → AreSealed (state_at h xs)
-unfolding Legal state_at
+pub are-sealed : (h : HistoryState) (xs : List Step) → LegalSteps h xs → AreSealed (state_at h xs)
+unfolding LegalSteps state_at
 are-sealed h xs l = sealed-steps (start_of h) xs l (record { first = 1; numbers = tt; count = refl; alone = λ a. refl })
 
 -- the first of them has the number from which so many lead to the next one
-pub first-sealed : (h : HistoryState) (xs : List Step) → Legal h xs → (n : ℕ) → n + length (state_at h xs).sealed ≡ (state_at h xs).next
+pub first-sealed : (h : HistoryState) (xs : List Step) → LegalSteps h xs → (n : ℕ) → n + length (state_at h xs).sealed ≡ (state_at h xs).next
     → n < (state_at h xs).next → IsFirstSealed n (state_at h xs).sealed
 first-sealed h xs l n count some =
     let k = are-sealed h xs l in
@@ -110,7 +111,7 @@ rest-guests [] g = tt
 rest-guests (e ∷ es) g = guests-second e.entries (entries_of es) g
 
 pub sealed-guests : (s : LogState) (by : ℕ) (w : What) → MayStep s by w → AreGuests (entries_of s.sealed)
-    → AreGuests (entries_of (after s w).sealed)
+    → AreGuests (entries_of (after_step s w).sealed)
 sealed-guests s by (Added es) m g = g
 sealed-guests s by (Sealed x zero epoch text) m g = tt
 sealed-guests s by (Sealed x (suc n) epoch text) m g =
@@ -127,4 +128,4 @@ sealed-guests s by (Protected b) m g = g
 pub guests-after : (s : LogState) (xs : List Step) → LegalFrom s xs → AreGuests (entries_of s.sealed)
     → AreGuests (entries_of (state_after s xs).sealed)
 guests-after s [] l g = g
-guests-after s (x ∷ xs) l g = guests-after (after s x.what) xs l.1 (sealed-guests s x.by x.what l.0.may g)
+guests-after s (x ∷ xs) l g = guests-after (after_step s x.what) xs l.1 (sealed-guests s x.by x.what l.0.may g)

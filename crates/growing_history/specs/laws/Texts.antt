@@ -4,7 +4,7 @@ use Rattle.guest_machine.specs.Guest.{Guest}
 use Rattle.pair_history.specs.Entries.{Frame}
 use Rattle.pair_history.specs.HistoryState.{HistoryState}
 use Rattle.growing_history.specs.Steps.{Step}
-use Rattle.growing_history.specs.LogState.{LogState, start_of, after, state_after, state_at}
+use Rattle.growing_history.specs.LogState.{LogState, start_of, after_step, state_after, state_at}
 use Rattle.growing_history.specs.SealedTexts.{Reading, Makes, IsMade, AreMadeFrom, AreMade}
 
 module _ (reads : Reading) where
@@ -19,7 +19,7 @@ module _ (reads : Reading) where
   made-joined : (s : LogState) (xs : List Step) (x : Step) → AreMadeFrom reads s xs → IsMade reads (state_after s xs) x.what
       → AreMadeFrom reads s (xs ++ x ∷ [])
   made-joined s [] x m n = (n, tt)
-  made-joined s (y ∷ xs) x m n = (m.0, made-joined (after s y.what) xs x m.1 n)
+  made-joined s (y ∷ xs) x m n = (m.0, made-joined (after_step s y.what) xs x m.1 n)
 
   pub made-nil : (h : HistoryState) → AreMade reads h []
   unfolding AreMade

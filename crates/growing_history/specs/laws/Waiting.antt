@@ -14,13 +14,13 @@ use Rattle.pair_history.specs.laws.Waits.{waits-quiet, number-quiet}
 use Rattle.pair_history.specs.laws.Waits.{waits-go_live, number-go_live, waits-fail_backup, number-fail_backup}
 use Rattle.growing_history.specs.Steps.{What, Added, Sealed, RanAlone, Committed, PrimaryFailed, BackupFailed, WentLive, Protected, Step}
 use Rattle.growing_history.specs.Waiting.{taken, StillWait, IsStill}
-use Rattle.growing_history.specs.LogState.{LogState, Epoch, Legal, start_of, state_at, after, entries_of, under_way}
+use Rattle.growing_history.specs.LogState.{LogState, Epoch, LegalSteps, start_of, state_at, after_step, entries_of, under_way}
 use Rattle.pair_history.specs.laws.Histories.{guests-append, guests-first}
 use Rattle.growing_history.specs.laws.Sealed.{guests-after}
 
 -- what is under way is the guest's
-pub legal-guests : (h : HistoryState) (xs : List Step) → Legal h xs → AreGuests (entries_of (state_at h xs).sealed)
-unfolding Legal state_at
+pub legal-guests : (h : HistoryState) (xs : List Step) → LegalSteps h xs → AreGuests (entries_of (state_at h xs).sealed)
+unfolding LegalSteps state_at
 legal-guests h xs l = guests-after (start_of h) xs l tt
 
 pub way-guests : (s : LogState) → AreGuests (entries_of s.sealed) → AreGuests (under_way s)
@@ -76,30 +76,30 @@ committed-way [] later = refl
 committed-way (e ∷ es) later =
     append_assoc e.entries (entries_of es) later ∙ ap (λ (l : List Entry). l ++ (entries_of es ++ later)) (sym (append-nil e.entries))
 
-pub still-wait : (s : LogState) (w : What) → AreGuests (entries_of s.sealed) → IsStill w → StillWait s (after s w)
+pub still-wait : (s : LogState) (w : What) → AreGuests (entries_of s.sealed) → IsStill w → StillWait s (after_step s w)
 still-wait s (Added es) g q =
-    same-wait s (after s (Added es)) (at-number s.history es ∙ number-quiet s.history.number es q)
+    same-wait s (after_step s (Added es)) (at-number s.history es ∙ number-quiet s.history.number es q)
     (at-waits s.history es ∙ waits-quiet s.history.waiting es q) refl
 still-wait s (Sealed x n epoch text) g q = absurd q
 still-wait s (RanAlone epoch) g q = absurd q
 still-wait s (Committed x n text) g q =
     let es = entries_of (take 1 s.sealed) in
     let own = first-guests s.sealed g in
-    gained-wait s (after s (Committed x n text)) es es own refl refl (number-guests s.history.number es own)
+    gained-wait s (after_step s (Committed x n text)) es es own refl refl (number-guests s.history.number es own)
     (committed-way s.sealed (map Arrive s.handed))
-still-wait s PrimaryFailed g q = same-wait s (after s PrimaryFailed) refl refl refl
+still-wait s PrimaryFailed g q = same-wait s (after_step s PrimaryFailed) refl refl refl
 still-wait s BackupFailed g q =
     let es = entries_of s.sealed in
-    gained-wait s (after s BackupFailed) es (fail_backup_entries s.history es) g refl
+    gained-wait s (after_step s BackupFailed) es (fail_backup_entries s.history es) g refl
     (waits-fail_backup s.history.waiting s.history es)
     (number-fail_backup s.history.number s.history es ∙ number-guests s.history.number es g) refl
 still-wait s (WentLive r) g q =
     let es = under_way s in
     let own = way-guests s g in
-    gained-wait s (after s (WentLive r)) es (go_live_entries s.history es) own refl
+    gained-wait s (after_step s (WentLive r)) es (go_live_entries s.history es) own refl
     (waits-go_live s.history.waiting s.history es own)
     (number-go_live s.history.number s.history es) (sym (append-nil es))
-still-wait s (Protected b) g q = same-wait s (after s (Protected b)) refl refl refl
+still-wait s (Protected b) g q = same-wait s (after_step s (Protected b)) refl refl refl
 
 -- WHERE AN EPOCH IS SEALED, before more is handed out: its arrivals are the first of what was handed out, and the others stay
 module _ (s t : LogState) (epoch : List Entry) (rest : List ℕ) (guests : AreGuests (entries_of s.sealed)) (own : AreGuests epoch)

@@ -6,7 +6,7 @@ use Rattle.std.proofs.lemmas.List.Elements.{All-head, All-tail}
 use Rattle.arrayvec.specs.ArrayVec.{ArrayVec}
 use Rattle.frame_ports.specs.Addresses.{addressed, clients_from, paired_with, targets_of}
 use Rattle.frame_ports.specs.Lands.{has_room, landed_at, lands, put_count}
-use Rattle.frame_ports.specs.Numbers.{number_of, landing, after_landing}
+use Rattle.frame_ports.specs.Numbers.{last_come, landing, after_landing}
 use Rattle.frame_ports.specs.Ports.{PortsState}
 use Rattle.frame_ports.specs.declared.landing.Landing.TheVariants.{In, Dropped}
 use Rattle.frame_ports.specs.laws.{Addresses.clients_from-range, Lands.{lands-append, put_count-append}}
@@ -32,42 +32,42 @@ clients_rise p f = rising-from (length p.boxes) 1 f.items (omega arith)
 
 -- one frame that is new for each of these clients
 module _ (n : ℕ) (f : ArrayVec ℕ) where
-  pub new_here : (p : PortsState) (c : ℕ) (cs : List ℕ) → All (λ c. number_of p c < n) (c ∷ cs) →
+  pub new_here : (p : PortsState) (c : ℕ) (cs : List ℕ) → All (λ c. last_come p c < n) (c ∷ cs) →
       (after_landing p c n f).boxes ≡ landed_at p.boxes c f
   new_here p c cs new = ap (λ (q : PortsState). q.boxes)
-      (after_landing-new p c n f (new_from p c n f (All-head (λ c. number_of p c < n) c cs new)))
+      (after_landing-new p c n f (new_from p c n f (All-head (λ c. last_come p c < n) c cs new)))
 
-  pub new_later : (p : PortsState) (c : ℕ) (cs : List ℕ) → AreRising (c ∷ cs) → All (λ c. number_of p c < n) (c ∷ cs) →
-      All (λ d. number_of (after_landing p c n f) d < n) cs
+  pub new_later : (p : PortsState) (c : ℕ) (cs : List ℕ) → AreRising (c ∷ cs) → All (λ c. last_come p c < n) (c ∷ cs) →
+      All (λ d. last_come (after_landing p c n f) d < n) cs
   new_later p c cs rising new = λ k d inside.
       let e : ℕ = slice_index_or cs k d in
       let later : c < e = rising.1 k d inside in
-      let before : number_of p e < n = All-tail (λ c. number_of p c < n) c cs new k d inside in
-      let other : number_of (after_landing p c n f) e ≡ number_of p e =
+      let before : last_come p e < n = All-tail (λ c. last_come p c < n) c cs new k d inside in
+      let other : last_come (after_landing p c n f) e ≡ last_come p e =
       number_other p c n f e rising.0 (omega (arith, later, rising.0)) (λ (same : e ≡ c). absurd (omega (arith, later, same))) in
       omega (arith, before, other)
 
-  boxes-for : (p : PortsState) (cs : List ℕ) → AreRising cs → All (λ c. number_of p c < n) cs →
+  boxes-for : (p : PortsState) (cs : List ℕ) → AreRising cs → All (λ c. last_come p c < n) cs →
       (landed_for p cs n f).boxes ≡ lands p.boxes (paired_with cs f)
   boxes-for p [] rising new = refl
   boxes-for p (c ∷ cs) rising new =
       boxes-for (after_landing p c n f) cs rising.2 (new_later p c cs rising new)
       ∙ ap (λ (l : List (List (ArrayVec ℕ))). lands l (paired_with cs f)) (new_here p c cs new)
 
-  put_here : (p : PortsState) (c : ℕ) → number_of p c < n → puts (landing p c n) ≡ (if has_room p.boxes c then 1 else 0)
+  put_here : (p : PortsState) (c : ℕ) → last_come p c < n → puts (landing p c n) ≡ (if has_room p.boxes c then 1 else 0)
   put_here p c new = ap puts (landing-new p c n f (new_from p c n f new)) ∙ by_room (has_room p.boxes c)
     where
       by_room : (b : Bool) → puts (if b then In else Dropped) ≡ (if b then 1 else 0)
       by_room true = refl
       by_room false = refl
 
-  landed_of-new : (p : PortsState) (cs : List ℕ) → AreRising cs → All (λ c. number_of p c < n) cs →
+  landed_of-new : (p : PortsState) (cs : List ℕ) → AreRising cs → All (λ c. last_come p c < n) cs →
       landed_of p cs n f ≡ put_count p.boxes (paired_with cs f)
   landed_of-new p [] rising new = refl
   landed_of-new p (c ∷ cs) rising new =
       omega (
         arith,
-        put_here p c (All-head (λ c. number_of p c < n) c cs new),
+        put_here p c (All-head (λ c. last_come p c < n) c cs new),
         landed_of-new (after_landing p c n f) cs rising.2 (new_later p c cs rising new),
         ap (λ (l : List (List (ArrayVec ℕ))). put_count l (paired_with cs f)) (new_here p c cs new),
       )
@@ -77,7 +77,7 @@ module _ (p : PortsState) (n : ℕ) (f : ArrayVec ℕ) (below : AreBelow p n) wh
   pub rising : AreRising (clients_for p f)
   rising = clients_rise p f
 
-  pub new : All (λ c. number_of p c < n) (clients_for p f)
+  pub new : All (λ c. last_come p c < n) (clients_for p f)
   new = λ k d inside. let at = clients_for-range p f k d inside in below.below (slice_index_or (clients_for p f) k d) at.0 at.1
 
   pub boxes-frame : (after_frame p n f).boxes ≡ lands p.boxes (paired_with (clients_for p f) f)

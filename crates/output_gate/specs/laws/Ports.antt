@@ -24,7 +24,7 @@ use Rattle.std.proofs.lemmas.List.Elements.{All-head, All-tail, All-nil, All-con
 use Rattle.arrayvec.specs.ArrayVec.{ArrayVec}
 use Rattle.frame_ports.specs.Addresses.{IsFrame}
 use Rattle.std.proofs.Common.{slice_index_or}
-use Rattle.frame_ports.specs.Numbers.{number_of, after_landing}
+use Rattle.frame_ports.specs.Numbers.{last_come, after_landing}
 use Rattle.frame_ports.specs.Ports.{PortsState, IsPorts}
 use Rattle.frame_ports.specs.laws.Addresses.{clients_from-range}
 use Rattle.frame_ports.specs.laws.Numbers.{boxes_count, numbers_count, next_same, inboxes_same, number_reaches, number_other}
@@ -67,30 +67,30 @@ module _ (n : ℕ) (f : ArrayVec ℕ) where
   inboxes_same-for p (c ∷ cs) = inboxes_same-for (after_landing p c n f) cs ∙ inboxes_same p c n f
 
   -- no number falls, and none rises above that of the frame
-  pub number_rises-for : (p : PortsState) (cs : List ℕ) (d : ℕ) → number_of p d ≤ number_of (landed_for p cs n f) d
+  pub number_rises-for : (p : PortsState) (cs : List ℕ) (d : ℕ) → last_come p d ≤ last_come (landed_for p cs n f) d
   number_rises-for p [] d = omega arith
   number_rises-for p (c ∷ cs) d = omega (arith, number_rises p c n f d, number_rises-for (after_landing p c n f) cs d)
 
-  pub number_at_most-for : (p : PortsState) (cs : List ℕ) (d m : ℕ) → number_of p d ≤ m → n ≤ m → number_of (landed_for p cs n f) d ≤ m
+  pub number_at_most-for : (p : PortsState) (cs : List ℕ) (d m : ℕ) → last_come p d ≤ m → n ≤ m → last_come (landed_for p cs n f) d ≤ m
   number_at_most-for p [] d m before frame = before
   number_at_most-for p (c ∷ cs) d m before frame =
       number_at_most-for (after_landing p c n f) cs d m (number_at_most p c n f d m before frame) frame
 
   -- each of the clients gets the number, and the others keep theirs
   pub number_reaches-for : (p : PortsState) (cs : List ℕ) → All (λ c. c - 1 < length p.numbers) cs →
-      All (λ c. n ≤ number_of (landed_for p cs n f) c) cs
-  number_reaches-for p [] within = All-nil (λ c. n ≤ number_of p c)
+      All (λ c. n ≤ last_come (landed_for p cs n f) c) cs
+  number_reaches-for p [] within = All-nil (λ c. n ≤ last_come p c)
   number_reaches-for p (c ∷ cs) within =
       let q = after_landing p c n f in
       let inside : c - 1 < length p.numbers = All-head (λ c. c - 1 < length p.numbers) c cs within in
       let rest : All (λ c. c - 1 < length q.numbers) cs = subst (λ k. All (λ c. c - 1 < k) cs) (sym (numbers_count p c n f))
       (All-tail (λ c. c - 1 < length p.numbers) c cs within) in
-      All-cons (λ d. n ≤ number_of (landed_for q cs n f) d) c cs
+      All-cons (λ d. n ≤ last_come (landed_for q cs n f) d) c cs
       (omega (arith, number_reaches p c n f inside, number_rises-for q cs c))
       (number_reaches-for q cs rest)
 
   pub number_other-for : (p : PortsState) (cs : List ℕ) (d : ℕ) → 1 ≤ d → All (λ c. (1 ≤ c) × (d ≢ c)) cs →
-      number_of (landed_for p cs n f) d ≡ number_of p d
+      last_come (landed_for p cs n f) d ≡ last_come p d
   number_other-for p [] d pos others = refl
   number_other-for p (c ∷ cs) d pos others =
       let at : (1 ≤ c) × (d ≢ c) = All-head (λ c. (1 ≤ c) × (d ≢ c)) c cs others in
@@ -146,7 +146,7 @@ ports-after p first (f ∷ fs) frames ok =
 
 -- no number falls
 pub number_rises-after : (p : PortsState) (first : ℕ) (fs : List (ArrayVec ℕ)) (d : ℕ) →
-    number_of p d ≤ number_of (ports_after p first fs) d
+    last_come p d ≤ last_come (ports_after p first fs) d
 number_rises-after p first [] d = omega arith
 number_rises-after p first (f ∷ fs) d =
     omega (arith, number_rises-for first f p (clients_for p f) d, number_rises-after (after_frame p first f) (first + 1) fs d)

@@ -7,7 +7,7 @@ use Rattle.pair_record.specs.internal.Accords.{Accords}
 use Rattle.pair_record.specs.Protocol.{Record}
 use Rattle.pair_record.specs.Record.{RecordState}
 use Rattle.growing_history.specs.Steps.{Step}
-use Rattle.growing_history.specs.LogState.{Legal, LogState, state_at, history_of}
+use Rattle.growing_history.specs.LogState.{LegalSteps, LogState, state_at, history_of}
 use Rattle.growing_history.specs.Views.{Keeper}
 use Rattle.pair_book.specs.Books.{BookState}
 use Rattle.pair_book.specs.Packets.{TextsState}
@@ -24,7 +24,7 @@ sealed_entries s = map (λ e. e.entries) s.sealed
 -- out; there are as many boxes as where the history starts, and the inboxes are what waits. Unless a commit is marked, the history is that
 -- of the steps, and record and ports accord with it: after a marked one the guest that goes on may send what the history's guest didn't.
 pub record IsTied (start : HistoryState) (steps : List Step) (r : Record) (p : PortsState) : Type 0 where
-  pub legal : Legal start steps
+  pub legal : LegalSteps start steps
   pub history : (state_at start steps).marked ≡ 0 → r.journal.history ≡ history_of start steps
   pub sealed : r.journal.sealed ≡ sealed_entries (state_at start steps)
   pub running : r.journal.running ≡ map Arrive (state_at start steps).handed

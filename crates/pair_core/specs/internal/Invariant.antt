@@ -76,8 +76,8 @@ abbrev pub KeepsNothing : Record → Type 0
 KeepsNothing r = (r.journal.sealed ≡ []) × (r.journal.running ≡ []) × (r.pending ≡ [])
 
 -- amid an event, it may run
-abbrev pub Stands : Pair → Type 0
-Stands w =
+abbrev pub HoldsAmid : Pair → Type 0
+HoldsAmid w =
     (accords : Accords w.start w.protocol.state w.ports)
     × NodesStand w accords
     × AreNamed w.protocol.state.generation w.protocol.state.window w.protocol.lines

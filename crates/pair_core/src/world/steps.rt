@@ -5,7 +5,7 @@ ghost use Rattle.pair_record.specs.declared.event.Event.TheVariants as events;
 ghost use Rattle.pair_record.specs.Journal.{all_entries};
 ghost use Rattle.pair_record.specs.Modes as modes;
 ghost use Rattle.pair_record.specs.Protocol.{allowed, frames_run_out, refused, step_outcome, step_room};
-ghost use Rattle.pair_core.specs.Answering.{Answers, MayWantMemory, step_reply};
+ghost use Rattle.pair_core.specs.Answering.{AnswersEvent, MayWantMemory, step_reply};
 ghost use Rattle.pair_core.specs.Leaves.{Leaves};
 ghost use Rattle.pair_core.specs.Pair.{Pair, IsConsistent};
 ghost use Rattle.pair_core.specs.Drops.{Drops};
@@ -28,7 +28,7 @@ impl World {
     /// [`Refusal::Exhausted`] where the history with what is kept would hold 2^62 entries (a step of a node that is alone counts as 1025);
     /// [`Refusal::NoMemory`] where a node is alone, and memory for what the step may send was refused. Nothing changed then.
     pub fn step(&mut self) -> Result<u64, Refusal>
-        ensures answers { Answers self.old.start self.old.protocol events.Step (step_reply result) self.new.protocol }
+        ensures answers { AnswersEvent self.old.start self.old.protocol events.Step (step_reply result) self.new.protocol }
         ensures start { self.new.start ≡ self.old.start }
         ensures backup { KeepsBackup self.old.nodes self.new.nodes }
         ensures refused { OnErr result (self.new ≡ self.old) }

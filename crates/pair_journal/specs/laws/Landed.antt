@@ -5,7 +5,7 @@ use Rattle.std.proofs.{Common.{Bool, true, false, cond}, lemmas.List.Elements.{A
 use Rattle.std.specs.Prelude.{All}
 use Rattle.frame_ports.specs.Addresses.{paired_with, targets_of}
 use Rattle.frame_ports.specs.Lands.{has_room, landed_at, lands}
-use Rattle.frame_ports.specs.{Limits.box_frames, Numbers.{number_of, landing, after_landing}, Ports.PortsState}
+use Rattle.frame_ports.specs.{Limits.box_frames, Numbers.{last_come, landing, after_landing}, Ports.PortsState}
 use Rattle.frame_ports.specs.declared.landing.Landing.TheVariants.{In, Dropped}
 use Rattle.frame_ports.specs.laws.Numbers.{landing-new, landing-old, new_from, old_from}
 use Rattle.output_gate.specs.Landings.{clients_for, landed_for, ports_after, AreBelow, AreOld, AreRising}
@@ -22,13 +22,13 @@ landings-append b (p ∷ ps) qs =
 -- frames that came before
 
 module _ (n : ℕ) (f : Frame) (p : PortsState) where
-  none_for : (cs : List ℕ) → All (λ c. n ≤ number_of p c) cs → entries_for p cs n f ≡ []
+  none_for : (cs : List ℕ) → All (λ c. n ≤ last_come p c) cs → entries_for p cs n f ≡ []
   none_for [] old = refl
   none_for (c ∷ cs) old =
       ap (λ x. entries_of_landing c x ++ entries_for (after_landing p c n f) cs n f)
-      (landing-old p c n f (old_from p c n f (All-head (λ c. n ≤ number_of p c) c cs old)))
+      (landing-old p c n f (old_from p c n f (All-head (λ c. n ≤ last_come p c) c cs old)))
       ∙ ap (λ (q : PortsState). entries_for q cs n f) (same_after n f p c cs old)
-      ∙ none_for cs (All-tail (λ c. n ≤ number_of p c) c cs old)
+      ∙ none_for cs (All-tail (λ c. n ≤ last_come p c) c cs old)
 
 pub entries-old : (p : PortsState) (first : ℕ) (fs : List Frame) → AreOld p first fs → entries_after p first fs ≡ []
 entries-old p first [] old = refl
@@ -40,7 +40,7 @@ entries-old p first (f ∷ fs) old =
 -- new frames
 
 module _ (n : ℕ) (f : Frame) where
-  one_for : (p : PortsState) (c : ℕ) → number_of p c < n
+  one_for : (p : PortsState) (c : ℕ) → last_come p c < n
       → entries_of_landing c (landing p c n) ≡ cond (has_room p.boxes c) (Land c) (DropOut c box_frames) ∷ []
   one_for p c new = ap (entries_of_landing c) (landing-new p c n f (new_from p c n f new)) ∙ by_room (has_room p.boxes c)
     where
@@ -48,11 +48,11 @@ module _ (n : ℕ) (f : Frame) where
       by_room true = refl
       by_room false = refl
 
-  all_for : (p : PortsState) (cs : List ℕ) → AreRising cs → All (λ c. number_of p c < n) cs
+  all_for : (p : PortsState) (cs : List ℕ) → AreRising cs → All (λ c. last_come p c < n) cs
       → entries_for p cs n f ≡ landings p.boxes (paired_with cs f)
   all_for p [] rises fresh = refl
   all_for p (c ∷ cs) rises fresh =
-      ap (λ es. es ++ entries_for (after_landing p c n f) cs n f) (one_for p c (All-head (λ c. number_of p c < n) c cs fresh))
+      ap (λ es. es ++ entries_for (after_landing p c n f) cs n f) (one_for p c (All-head (λ c. last_come p c < n) c cs fresh))
       ∙ ap (λ es. cond (has_room p.boxes c) (Land c) (DropOut c box_frames) ∷ es)
       (all_for (after_landing p c n f) cs rises.2 (new_later n f p c cs rises fresh)
       ∙ ap (λ (b : List (List Frame)). landings b (paired_with cs f)) (new_here n f p c cs fresh))

@@ -1,12 +1,12 @@
 //! What happens at the record where the full checkpoint of a new backup comes with the epoch before it.
 ghost use Rattle.std.specs.Prelude.{◌≡◌, ◌≤◌, length, All, IfOk, OnOk, OnErr, None, true};
 ghost use Rattle.frame_ports.specs.Addresses.{IsFrame};
-ghost use Rattle.frame_ports.specs.Numbers.{marked};
+ghost use Rattle.frame_ports.specs.Numbers.{renumbered};
 ghost use Rattle.pair_history.specs.Failures.{arrived_numbers};
 ghost use Rattle.pair_record.specs.EpochActs.{enter_epoch_refusals, enter_epoch_done};
-ghost use Rattle.pair_record.specs.Modes.{is_filling as filling};
 ghost use Rattle.pair_record.specs.Protocol.{first_refusal, full_done};
 ghost use Rattle.pair_record.specs.Record.{IsAsBefore, ports_landed};
+ghost use Rattle.failover.specs.Modes.{is_filling as filling};
 
 use super::PairRecord;
 use crate::event::Reply;
@@ -32,7 +32,7 @@ impl PairRecord {
         ensures ok { IfOk result (λ reply. (reply, self.new.protocol)
             ≡ full_done (enter_epoch_done arrivals steps self.old.ports.boxes frames.now self.old.protocol)) }
         ensures ports { OnOk result (self.new.ports
-            ≡ marked (ports_landed self.old.ports self.old.protocol.next_frame frames.now)) }
+            ≡ renumbered (ports_landed self.old.ports self.old.protocol.next_frame frames.now)) }
         ensures room { OnOk result (self.old.arrival_room ≤ self.new.arrival_room) }
         ensures err { OnErr result (IsAsBefore self.old self.new) }
     {
@@ -42,7 +42,7 @@ impl PairRecord {
             .enter_epoch_and_seal_empty(arrivals, steps, count as usize)?;
         let _landed = self.journal.land(&mut self.ports, self.gate.next(), frames);
         self.gate.begin(0);
-        self.ports.mark();
+        self.ports.renumber();
         self.gate.hold(number, &[]);
         self.window.cut();
         Ok(Reply::Cut {

@@ -1,6 +1,6 @@
 //! What happens at the record where a node that is alone gets a new backup.
 ghost use Rattle.std.specs.Prelude.{◌≡◌, IfOk, OnOk, OnErr, None, true};
-ghost use Rattle.frame_ports.specs.Numbers.{marked};
+ghost use Rattle.frame_ports.specs.Numbers.{renumbered};
 ghost use Rattle.pair_record.specs.Modes.{is_alone};
 ghost use Rattle.pair_record.specs.Protocol.{first_refusal, protect_refusals, protect_done};
 ghost use Rattle.pair_record.specs.Record.{IsAsBefore};
@@ -30,12 +30,12 @@ impl PairRecord {
         requires free { first_refusal (protect_refusals self.old.protocol) ≡ None }
         requires alone { is_alone self.old.protocol.mode ≡ true }
         ensures ok { IfOk result (λ reply. (reply, self.new.protocol) ≡ protect_done self.old.protocol) }
-        ensures ports { OnOk result (self.new.ports ≡ marked self.old.ports) }
+        ensures ports { OnOk result (self.new.ports ≡ renumbered self.old.ports) }
         ensures err { OnErr result (IsAsBefore self.old self.new) }
     {
         self.journal.seal_empty()?;
         self.gate.begin(0);
-        self.ports.mark();
+        self.ports.renumber();
         self.gate.hold(FULL_CHECKPOINT, &[]);
         self.window = Window::none_pending(FULL_CHECKPOINT);
         self.window.cut();

@@ -12,7 +12,7 @@ use Rattle.script_player.specs.declared.sim.Stop.{Stop}
 use Rattle.script_player.specs.declared.sim.Stop.TheVariants as stops
 use Rattle.script_player.specs.Lines.{Line}
 use Rattle.script_player.specs.Meaning.{IsAnswered, IsBeyond, Stage, unbooted, playing, GoesOn, IsBad, IsRefused}
-use Rattle.script_player.specs.Meaning.{Ending, finished, bad, refused, Means, lines_of, bad_line, IsCut}
+use Rattle.script_player.specs.Meaning.{Ending, finished, bad, refused, Means, lines_of, bad_line, IsWrittenShort}
 use Rattle.script_player.specs.Session.{bad_answer}
 use Rattle.script_player.specs.Streams.{Writing, Writes, WritesFront}
 
@@ -59,7 +59,7 @@ abbrev pub IsPlayedTo : List ℕ → List ℕ → Result Unit Stop → Writing �
 IsPlayedTo no_memory source (Ok done) out out' = HasMeant no_memory source finished out out'
 IsPlayedTo no_memory source (Err (stops.Bad number)) out out' = HasMeant no_memory source (bad number) out out'
 IsPlayedTo no_memory source (Err stops.Refused) out out' = HasMeant no_memory source refused out out'
-IsPlayedTo no_memory source (Err stops.Unwritten) out out' = IsCut no_memory source out out'
+IsPlayedTo no_memory source (Err stops.Unwritten) out out' = IsWrittenShort no_memory source out out'
 
 -- why a script ends with a line of this number, if it does
 abbrev pub stop_of : Turn → ℕ → Option Stop

@@ -3,7 +3,7 @@ use Rattle.std.proofs.Common.{◌≡◌, ◌<◌, ◌^◌, ℕ, Bool, true, fals
 use Rattle.std.proofs.Common.{subst, ◌==◌}
 use Rattle.std.proofs.{Common.{◌&&◌, nat_lt, arith}, lemmas.Bool.and_parts}
 use Rattle.std.specs.{Option.{option_map, option_and_then}, Str.{all_ascii_digits, Parse.digits_value}, Char.is_ascii_digit}
-use Rattle.script_player.specs.Fields.{text_after, number_of, number_in, operand_of, parted}
+use Rattle.script_player.specs.Fields.{text_after, number_written, number_in, operand_of, parted}
 use Rattle.script_player.specs.laws.Options.{some_same, pair_parts, and_then_some, map_some}
 
 -- a front is found again
@@ -24,7 +24,7 @@ text_after-some (f ∷ front) (c ∷ text) rest h = by-test (f == c) refl (text_
 
 -- ---- a number, and the text around the first space
 
--- the test of `number_of`
+-- the test of `number_written`
 abbrev pub writes : List ℕ → Bool
 writes text = nat_lt 0 (length text) && all_ascii_digits text && nat_lt (digits_value 10 text) (2 ^ 64)
 
@@ -69,16 +69,16 @@ digits_written text n true e h = (writes_to text e).0
 digits_written text n false e h = cc
 
 -- a number at the front, after it a space, is found again
-pub operand_of-spelled : (digits rest : List ℕ) (n : ℕ) → number_of digits ≡ Some n → operand_of (digits ++ 32 ∷ rest) ≡ Some (n, rest)
+pub operand_of-spelled : (digits rest : List ℕ) (n : ℕ) → number_written digits ≡ Some n → operand_of (digits ++ 32 ∷ rest) ≡ Some (n, rest)
 operand_of-spelled digits rest n h =
     ap (option_and_then number_in) (parted-digits digits rest (digits_written digits n (writes digits) refl h))
     ∙ ap (option_map {U = ℕ × List ℕ} (λ m. (m, rest))) h
 
 -- what is read at the front is a number, and a space stands after it
 pub operand_of-read : (text : List ℕ) (n : ℕ) (rest : List ℕ) → operand_of text ≡ Some (n, rest)
-    → (digits : List ℕ) × (text ≡ digits ++ 32 ∷ rest) × (number_of digits ≡ Some n)
+    → (digits : List ℕ) × (text ≡ digits ++ 32 ∷ rest) × (number_written digits ≡ Some n)
 operand_of-read text n rest h =
     let parts = and_then_some number_in (parted text) (n, rest) h in
-    let number = map_some {B = ℕ × List ℕ} (λ m. (m, parts.0.1)) (number_of parts.0.0) (n, rest) parts.2 in
+    let number = map_some {B = ℕ × List ℕ} (λ m. (m, parts.0.1)) (number_written parts.0.0) (n, rest) parts.2 in
     let both = pair_parts number.2 in
     (parts.0.0, parted-shape text parts.0 parts.1 ∙ ap (λ t. parts.0.0 ++ 32 ∷ t) both.1, number.1 ∙ ap Some both.0)

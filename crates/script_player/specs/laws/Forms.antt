@@ -2,7 +2,7 @@
 use Rattle.std.proofs.Common.{◌≡◌, ℕ, Bool, true, false, cond, List, ◌++◌, Option, Some, None, IfSome, refl, sym, ap, subst, ◌∙◌}
 use Rattle.std.{proofs.lemmas.Slice.Eq.bytes_eq-Decides, specs.Option.{option_map_or, option_and_then}}
 use Rattle.std.specs.Str.{bytes_eq}
-use Rattle.script_player.specs.{Fields.{text_after, number_of, numbered_by, operand_of, with_second, numbers_by}, Command.IsNumbered}
+use Rattle.script_player.specs.{Fields.{text_after, number_written, numbered_by, operand_of, with_second, numbers_by}, Command.IsNumbered}
 use Rattle.script_player.specs.Command.{HasNumbers}
 use Rattle.script_player.specs.laws.Fields.{text_after-some, operand_of-read}
 use Rattle.script_player.specs.laws.Options.{some_same, pair_parts}
@@ -10,7 +10,7 @@ use Rattle.script_player.specs.laws.Options.{and_then_some, map_some}
 
 pub is_numbered : (front text : List ℕ) (n : ℕ) → numbered_by front text ≡ Some n → IsNumbered front n text
 is_numbered front text n h =
-    let rest = and_then_some number_of (text_after front text) n h in
+    let rest = and_then_some number_written (text_after front text) n h in
     (rest.0, text_after-some front text rest.0 rest.1, rest.2)
 
 pub has_numbers : (front text : List ℕ) (found : ℕ × ℕ) → numbers_by front text ≡ Some found → HasNumbers front found.0 found.1 text
@@ -18,7 +18,7 @@ has_numbers front text found h =
     let head = and_then_some with_second (option_and_then operand_of (text_after front text)) found h in
     let rest = and_then_some operand_of (text_after front text) head.0 head.1 in
     let read = operand_of-read rest.0 head.0.0 head.0.1 rest.2 in
-    let last = map_some {B = ℕ × ℕ} (λ n. (head.0.0, n)) (number_of head.0.1) found head.2 in
+    let last = map_some {B = ℕ × ℕ} (λ n. (head.0.0, n)) (number_written head.0.1) found head.2 in
     let both = pair_parts last.2 in
     let shape = text_after-some front text rest.0 rest.1 ∙ ap (λ t. front ++ t) read.1 in
     (read.0, head.0.1, shape, read.2 ∙ ap Some both.0, last.1 ∙ ap Some both.1)

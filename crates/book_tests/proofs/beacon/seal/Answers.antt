@@ -3,7 +3,7 @@ use Rattle.pair_history.specs.Entries.{Frame}
 use Rattle.growing_history.specs.Views.{Member}
 use Rattle.pair_book.specs.declared.prepared.Prepared.TheVariants as prepared
 use Rattle.pair_book.specs.Made.{IsPrepared}
-use Rattle.pair_book.specs.Settled.{IsSettled, Runs, RunsOn, RunnerState, runner_state}
+use Rattle.pair_book.specs.Settled.{EpochFollows, Runs, RunsOn, RunnerOutside, runner_outside}
 use Rattle.book_tests.proofs.EpochOfSteps.{StepLaws, runs-steps, steps-like, steps-shape, steps-made, was-read}
 use Rattle.book_tests.proofs.beacon.seal.Goals as goal
 
@@ -12,11 +12,11 @@ submit-requires-clause-settled g c =
     let start = g.P.Pair.start in
     let m = c.args.machine.now in
     let n = c.args.steps in
-    let x : RunnerState = runner_state 0 n [] m.guest m.outbox start.guest in
+    let x : RunnerOutside = runner_outside 0 n [] m.guest m.outbox start.guest in
     let runs : Runs start c.args.runner.now x =
     subst (λ (seat : Member). Runs start seat x) (sym c.requires.seat)
     (runs-steps start _ start.guest n m (c.members_begin.ensures.runner start) c.requires.guest c.requires.outbox) in
-    subst (λ (fs : List Frame). IsSettled start c.args.runner.now 0 n fs) (sym c.outbox-frames.ensures.value)
+    subst (λ (fs : List Frame). EpochFollows start c.args.runner.now 0 n fs) (sym c.outbox-frames.ensures.value)
     (c.runners_bring_what_they_have.ensures.settled start c.args.runner.now x runs)
 
 pub submit-requires-clause-prepared : goal.submit-requires-clause-prepared
@@ -24,7 +24,7 @@ submit-requires-clause-prepared g c =
     let start = g.P.Pair.start in
     let m = c.args.machine.now in
     let n = c.args.steps in
-    let x : RunnerState = runner_state 0 n [] m.guest m.outbox start.guest in
+    let x : RunnerOutside = runner_outside 0 n [] m.guest m.outbox start.guest in
     let runs : Runs start c.args.runner.now x =
     subst (λ (seat : Member). Runs start seat x) (sym c.requires.seat)
     (runs-steps start _ start.guest n m (c.members_begin.ensures.runner start) c.requires.guest c.requires.outbox) in
@@ -48,7 +48,7 @@ returns-clause-runs g c =
     let start = g.P.Pair.start in
     let m = c.args.machine.now in
     let n = c.args.steps in
-    let x : RunnerState = runner_state 0 n [] m.guest m.outbox start.guest in
+    let x : RunnerOutside = runner_outside 0 n [] m.guest m.outbox start.guest in
     let runs : Runs start c.args.runner.now x =
     subst (λ (seat : Member). Runs start seat x) (sym c.requires.seat)
     (runs-steps start _ start.guest n m (c.members_begin.ensures.runner start) c.requires.guest c.requires.outbox) in

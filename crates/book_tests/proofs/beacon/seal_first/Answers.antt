@@ -2,7 +2,7 @@ use Rattle.std.proofs.Common.{ℕ, List, [], sym, ap, subst, ◌∙◌, ◌≡�
 use Rattle.guest_machine.specs.Guest.{Guest, State, HasDeviceRecords, boot_guest}
 use Rattle.guest_machine.specs.Runs.{after_steps, sent_in, marked_in}
 use Rattle.pair_history.specs.{Entries.Frame, HistoryState.HistoryState}
-use Rattle.pair_book.specs.Settled.{Runs, just_settled}
+use Rattle.pair_book.specs.Settled.{Runs, settled_runner}
 use Rattle.book_tests.specs.Machines.{IsLike}
 use Rattle.book_tests.proofs.beacon.seal_first.Goals as goal
 
@@ -39,7 +39,7 @@ seal-requires-clause-settled g c =
 pub returns-clause-runs : goal.returns-clause-runs
 returns-clause-runs g c =
     let is : c.deref.result.now.guest ≡ c.of-machine.result = ap (λ (m : State). m.guest) c.deref.ensures ∙ sym c.of-machine.ensures in
-    subst (λ (x : Guest). (held : List (ℕ × Frame)) × Runs g.P.Pair.start c.seal.new.runner (just_settled x held)) is
+    subst (λ (x : Guest). (held : List (ℕ × Frame)) × Runs g.P.Pair.start c.seal.new.runner (settled_runner x held)) is
     c.in_ok-checkpoint.ensures.runs
 
 pub returns-clause-like : goal.returns-clause-like

@@ -1,5 +1,5 @@
 use Rattle.std.proofs.Common.{◌≡◌, ◌+◌, ◌-◌, ℕ, take, drop, length-set, sym, ◌∙◌, ap, arith}
-use Rattle.checkpoint_stream.{specs.HeadTable.number_of, proofs.{Feeding.Takes-nothing, RunLemmas.{numbered-next, width-most}}}
+use Rattle.checkpoint_stream.{specs.HeadTable.number_spelled, proofs.{Feeding.Takes-nothing, RunLemmas.{numbered-next, width-most}}}
 use Rattle.checkpoint_stream.proofs.runs.read_numbers.Goals as goal
 
 pub loop-known-init : goal.loop-known-init
@@ -16,7 +16,7 @@ loop-known-preserved c =
     let w = c.bytes-width.result in
     let count : l.at + w - l.at ≡ w = omega arith in
     let number = c.number_of-n.ensures
-    ∙ ap (λ (k : ℕ). number_of c.head_row-row.result.width (take k (drop l.at c.args.rest.now))) count in
+    ∙ ap (λ (k : ℕ). number_spelled c.head_row-row.result.width (take k (drop l.at c.args.rest.now))) count in
     record {
       inside = omega (arith, c.bytes-width.ensures, width-most c.head_row-row.result.width);
       known = omega arith;

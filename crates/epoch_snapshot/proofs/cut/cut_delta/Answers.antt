@@ -1,6 +1,6 @@
 -- The parts are a canonical cut's, and its image over a base is the machine's guest.
 use Rattle.std.proofs.Common.{refl, sym, ap, ◌∙◌, arith}
-use Rattle.epoch_snapshot.specs.{Bases.IsCut, Checkpoints.{Change, change_of}, Images.image_of, Cuts.changed_blocks}
+use Rattle.epoch_snapshot.specs.{Bases.IsCheckpointOver, Checkpoints.{Change, change_of}, Images.image_of, Cuts.changed_blocks}
 use Rattle.epoch_snapshot.proofs.{ImageLemmas.{IsCanonical-cut, image-delta}, SectorLemmas.Rises-count}
 use Rattle.guest_machine.specs.{Dirty.Rises, MachineStates.with_state}
 use Rattle.epoch_snapshot.proofs.cut.cut_delta.Goals as goal
@@ -11,7 +11,7 @@ made c = change_of 2 c.shape-shape.result c.args.generation c.args.number c.stat
     c.push_pages.new.blocks.items c.push_written.new.list.items c.in_ok-frames.frames.items
 
 is_cut : (c : goal.After-state) →
-    IsCut c.args.machine.now.settled c.args.machine.now.dirty c.args.machine.now.outbox c.args.machine.now c.args.generation c.args.number (made c)
+    IsCheckpointOver c.args.machine.now.settled c.args.machine.now.dirty c.args.machine.now.outbox c.args.machine.now c.args.generation c.args.number (made c)
 is_cut c = record {
   version = refl;
   pages_size = c.shape-shape.ensures.pages;

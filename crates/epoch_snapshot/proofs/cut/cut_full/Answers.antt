@@ -2,7 +2,7 @@
 use Rattle.std.proofs.{Common.{ℕ, [], arith, length, replicate, refl, sym, ap, ◌∙◌, lit<}, lemmas.List.Elements.All-nil}
 use Rattle.net_device.specs.Frames.{IsFrame}
 use Rattle.guest_machine.specs.MachineStates.{with_state}
-use Rattle.epoch_snapshot.specs.{Bases.IsCut, Checkpoints.{Change, change_of}, Cuts.{changed_blocks, used_sectors}, Images.image_of}
+use Rattle.epoch_snapshot.specs.{Bases.IsCheckpointOver, Checkpoints.{Change, change_of}, Cuts.{changed_blocks, used_sectors}, Images.image_of}
 use Rattle.epoch_snapshot.proofs.{ImageLemmas.{IsCanonical-cut, image-full}, SectorLemmas.{Rises-used, used-nonzero}}
 use Rattle.epoch_snapshot.proofs.cut.cut_full.Goals as goal
 
@@ -12,7 +12,7 @@ made c = change_of 2 c.shape-shape.result c.args.generation 0 c.state.result c.p
     c.push_pages.new.blocks.items c.push_used.new.list.items c.new-frames.result.items
 
 is_cut : (c : goal.After-state) →
-    IsCut (replicate (length c.args.machine.now.guest.ram) 0) (used_sectors c.args.machine.now.guest.sectors c.shape-shape.result.sectors)
+    IsCheckpointOver (replicate (length c.args.machine.now.guest.ram) 0) (used_sectors c.args.machine.now.guest.sectors c.shape-shape.result.sectors)
     [] c.args.machine.now c.args.generation 0 (made c)
 is_cut c =
     let old = replicate {A = ℕ} (length c.args.machine.now.guest.ram) 0 in

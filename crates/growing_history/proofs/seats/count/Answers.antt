@@ -1,6 +1,6 @@
 use Rattle.std.proofs.Common.{◌++◌, [], ◌∷◌, arith, sym, ap, ◌∙◌, subst}
 use Rattle.growing_history.specs.Steps.{Step}
-use Rattle.growing_history.specs.LogState.{Legal}
+use Rattle.growing_history.specs.LogState.{LegalSteps}
 use Rattle.growing_history.proofs.Moves.{counts}
 use Rattle.growing_history.proofs.seats.count.Goals as goal
 
@@ -13,5 +13,5 @@ fetch_add-requires g c =
       r.word ∙ sym t.named,
       omega (arith, t.one_word),
       counts _ _ v _ g.P.Pair.start x r.keeper.0 r.start (ap (λ (y : Step). y.by) r.step) r.room
-          (subst (λ (y : Step). Legal g.P.Pair.start (v.steps ++ y ∷ [])) (sym r.step) r.legal),
+          (subst (λ (y : Step). LegalSteps g.P.Pair.start (v.steps ++ y ∷ [])) (sym r.step) r.legal),
     )

@@ -3,7 +3,7 @@ use Rattle.pair_history.specs.Entries.{Frame}
 use Rattle.pair_book.specs.Calls.{IsWhy}
 use Rattle.pair_book.specs.Handing.{handing, HandsNext}
 use Rattle.pair_book.specs.Made.{IsPrepared}
-use Rattle.pair_book.specs.Settled.{just_settled, Runs, RunsOn}
+use Rattle.pair_book.specs.Settled.{settled_runner, Runs, RunsOn}
 use Rattle.pair_book.specs.Submitting.{ended, submit_why}
 use Rattle.hypervisor.specs.AtBook.{EndsAtBook}
 use Rattle.hypervisor.specs.Runners.{RunnerState, runner_state}
@@ -78,7 +78,7 @@ returns-clause-handed g c =
     let a = c.args in
     let r : RunnerState = runner_state a.machine.now a.held.now a.epoch.arrivals a.epoch.steps a.what.now a.seat.now in
     let law = c.steps_go_on.ensures in
-    let on : Runs g.P.Pair.start c.submit.new.seat (just_settled a.machine.now.guest (a.held.now ++ c.in-Ok.next.frames.items)) =
+    let on : Runs g.P.Pair.start c.submit.new.seat (settled_runner a.machine.now.guest (a.held.now ++ c.in-Ok.next.frames.items)) =
     returns-clause-runs g c in
     holds-handed g.P.Pair.start r c.requires a.book.now c.submit.new.self c.submit.new.seat c.in-Ok.ensures.step c.entries.ensures.legal
     c.number-2.ensures.legal c.entries.ensures.running law.needed law.state c.members_go_on.ensures.runner a.machine.now.guest _ on

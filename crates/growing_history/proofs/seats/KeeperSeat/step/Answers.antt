@@ -1,6 +1,6 @@
 use Rattle.std.proofs.Common.{◌≡◌, ℕ, ◌++◌, [], ◌∷◌, List, length, sym, ap, ◌∙◌, subst, refl}
 use Rattle.growing_history.specs.Steps.{What, Step, step, steps_by}
-use Rattle.growing_history.specs.LogState.{Legal}
+use Rattle.growing_history.specs.LogState.{LegalSteps}
 use Rattle.growing_history.specs.Views.{View, Member, Keeper, only_view, IsMember}
 use Rattle.growing_history.specs.Plays.{Meets, with_member, member_of, stepped}
 use Rattle.growing_history.proofs.Members.{own_steps, IsMember-stepped}
@@ -19,9 +19,9 @@ invariant_of-member g c =
     ∙ (ap (λ m. member_of m.0 ∷ []) c.count.ensures.keeper
     ∙ ap (λ (u : View). member_of (stepped (step u.number said) u) ∷ []) joined) in
     let met = subst (λ (u : View). Meets u (length u.steps)) joined c.count.ensures.meets in
-    let legal : Legal start (v.steps ++ step w.number said ∷ []) =
-    subst (λ (l : List Step). Legal start (l ++ step w.number said ∷ [])) (sym (ap (λ (k : Keeper). k.steps) c.self.view_is))
-    (subst (λ (n : ℕ). Legal start (c.args.self.now.steps ++ step n said ∷ []))
+    let legal : LegalSteps start (v.steps ++ step w.number said ∷ []) =
+    subst (λ (l : List Step). LegalSteps start (l ++ step w.number said ∷ [])) (sym (ap (λ (k : Keeper). k.steps) c.self.view_is))
+    (subst (λ (n : ℕ). LegalSteps start (c.args.self.now.steps ++ step n said ∷ []))
     (sym (ap (λ (m : Member). m.number) c.member.view_is)) c.requires.legal) in (
       c.take_back-back.ensures.word.1,
       subst (IsMember start) (sym views)

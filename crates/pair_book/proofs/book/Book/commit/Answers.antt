@@ -5,7 +5,7 @@ use Rattle.checkpoint_stream.specs.Text.{text}
 use Rattle.growing_history.specs.Steps.{step, steps_by}
 use Rattle.growing_history.specs.Views.{Member, Keeper}
 use Rattle.pair_book.specs.declared.failures.Ack.{Ack}
-use Rattle.pair_book.specs.Commits.{commit_of, is_earlier, StandsBy}
+use Rattle.pair_book.specs.Commits.{commit_of, is_earlier, StandsAfterNext}
 use Rattle.pair_book.specs.internal.Tie.{book_state}
 use Rattle.pair_book.proofs.{CommitRows.{commit_may, commit-live, some-committed}, CommitTies.committed-tied}
 use Rattle.pair_book.proofs.CommittedTies.{committed-keeps}
@@ -77,7 +77,7 @@ returns-clause-stands g c =
     sees c.step.ensures.own in
     let ack : Ack = record { generation = c.in-Committed.generation; number = c.in-Committed.number } in
     let told : (replies.Committed ack.generation ack.number, now.protocol) ≡ commit_done r.protocol = search rules in
-    let stands : is_earlier c.args.self.now change ≡ false → StandsBy start change ack seat c.step.new.member =
+    let stands : is_earlier c.args.self.now change ≡ false → StandsAfterNext start change ack seat c.step.new.member =
     λ next.
     stands-by start steps r.protocol r.ports c.self.invariant.0 c.self.invariant.1 c.keep.ensures.record seat c.step.new.member change
     may.mine may.pair may.generation may.number may.some turn c.step.ensures.before own sees ack (answered ack r.protocol now.protocol told) in

@@ -3,7 +3,7 @@ use Rattle.pair_history.specs.Entries.{Frame}
 use Rattle.pair_record.specs.Kept.{Brings}
 use Rattle.pair_record.specs.Protocol.{Outcome, Record}
 use Rattle.growing_history.specs.Steps.{Step, WentLive, step}
-use Rattle.growing_history.specs.LogState.{Legal, state_at}
+use Rattle.growing_history.specs.LogState.{LegalSteps, state_at}
 use Rattle.growing_history.specs.Views.{Keeper}
 use Rattle.pair_book.specs.{Books.BookState, Packets.TextsState}
 use Rattle.pair_book.specs.internal.{Committed.KeepsCommitted, Tie.{IsTied, book_state}}
@@ -26,7 +26,7 @@ go_live-runner-requires-clause-legal g c =
     c.args.first kept c.requires.stands.1
     (c.self.inside.seats.enrolled + 1) 0 (search (rules, c.next-new.ensures.new))
     (ap (λ (o : Outcome). o.1) c.in_ok-go_live.ensures.ok) c.in_ok-go_live.ensures.ports in
-    subst (λ (k : Keeper). Legal start (k.steps ++ step 0 (WentLive (k.enrolled + 1)) ∷ [])) (sym c.meet.ensures.keeper) tied.legal
+    subst (λ (k : Keeper). LegalSteps start (k.steps ++ step 0 (WentLive (k.enrolled + 1)) ∷ [])) (sym c.meet.ensures.keeper) tied.legal
 
 pub invariant_of-self-2 : goal.invariant_of-self-2
 invariant_of-self-2 g c =

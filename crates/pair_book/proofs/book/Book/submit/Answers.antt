@@ -8,7 +8,7 @@ use Rattle.pair_book.specs.declared.prepared.Prepared.{Prepared}
 use Rattle.pair_book.specs.declared.runner.Kind.{Kind}
 use Rattle.pair_book.specs.{Books.BookState, Handing.{handing, handed_next, HandsNext}, Packets.TextsState}
 use Rattle.pair_book.specs.internal.{Committed.KeepsCommitted, Texts.HasTexts, Tie.{IsTied, book_state}, Told.found}
-use Rattle.pair_book.specs.Submitting.{submit_why, wanted_kind, ended, ended_as, told, texts_ended}
+use Rattle.pair_book.specs.Submitting.{submit_why, wanted_kind, ended, ended_as, epoch_told, texts_ended}
 use Rattle.pair_book.proofs.{RunEnds.runs-submitted, SubmitLaws.{only-arrivals, is-free, submitted}}
 use Rattle.pair_book.proofs.book.Book.submit.Goals as goal
 
@@ -158,10 +158,10 @@ returns-clause-step g c =
     c.len-before.ensures ∙ ap (λ (es : List Entry). length es) c.history.ensures in
     let number : c.meet.new.member.number ≡ seat.number = ap (λ (m : Member). m.number) c.meet.ensures.member in
     let steps : c.meet.new.self.steps ≡ seats.steps = ap (λ (x : Keeper). x.steps) c.meet.ensures.keeper in
-    let tell : found what pair.protocol.journal c.len-before.result c.min.result ran ≡ told b c.args.epoch.arrivals ran what =
+    let tell : found what pair.protocol.journal c.len-before.result c.min.result ran ≡ epoch_told b c.args.epoch.arrivals ran what =
     ap (λ (n : ℕ). found what pair.protocol.journal n c.min.result ran) len ∙ all.told-is in
-    let same : told b c.args.epoch.arrivals ran what ≡ told c.args.self.now c.args.epoch.arrivals ran what =
-    ap (λ (x : BookState). told x c.args.epoch.arrivals ran what) c.self.view_is in
+    let same : epoch_told b c.args.epoch.arrivals ran what ≡ epoch_told c.args.self.now c.args.epoch.arrivals ran what =
+    ap (λ (x : BookState). epoch_told x c.args.epoch.arrivals ran what) c.self.view_is in
     search (rules, tell, same, number, steps, before, own)
 
 pub add_text-requires : goal.add_text-requires
@@ -273,12 +273,12 @@ returns-clause-runs g c =
     c.len-before.ensures ∙ ap (λ (es : List Entry). length es) c.history.ensures in
     let number : c.meet.new.member.number ≡ seat.number = ap (λ (m : Member). m.number) c.meet.ensures.member in
     let steps : c.meet.new.self.steps ≡ seats.steps = ap (λ (x : Keeper). x.steps) c.meet.ensures.keeper in
-    let tell : found what pair.protocol.journal c.len-before.result c.min.result ran ≡ told b c.args.epoch.arrivals ran what =
+    let tell : found what pair.protocol.journal c.len-before.result c.min.result ran ≡ epoch_told b c.args.epoch.arrivals ran what =
     ap (λ (n : ℕ). found what pair.protocol.journal n c.min.result ran) len ∙ all.told-is in
-    let grown : c.tell_ended.new.seats.steps ≡ seats.steps ++ step seat.number (told b c.args.epoch.arrivals ran what) ∷ [] =
+    let grown : c.tell_ended.new.seats.steps ≡ seats.steps ++ step seat.number (epoch_told b c.args.epoch.arrivals ran what) ∷ [] =
     ap (λ (x : Keeper). x.steps) c.tell_ended.ensures.seats ∙ (λ i. steps i ++ step (number i) (tell i) ∷ []) in
     let sees : c.tell_ended.new.member
-    ≡ record { number = seat.number; steps = seats.steps ++ step seat.number (told b c.args.epoch.arrivals ran what) ∷ [] } =
+    ≡ record { number = seat.number; steps = seats.steps ++ step seat.number (epoch_told b c.args.epoch.arrivals ran what) ∷ [] } =
     c.tell_ended.ensures.member ∙ (λ i. record { number = number i; steps = grown i }) in
     runs-submitted start b c.self.invariant.0 seat c.tell_ended.new.member what (is-free start b seat.number what ran fs why)
     c.args.epoch.arrivals ran fs before

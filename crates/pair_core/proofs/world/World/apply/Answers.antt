@@ -1,10 +1,10 @@
 use Rattle.std.proofs.Common.{rules, arith, ◌≡◌}
 use Rattle.pair_core.proofs.{PublicLaws.answers_by_outcome, ServiceLaws.serves, world.World.apply.Goals.After-answered}
-use Rattle.pair_core.specs.Answering.{Answers}
+use Rattle.pair_core.specs.Answering.{AnswersEvent}
 use Rattle.pair_core.proofs.world.World.apply.Goals as goal
 
 answers : (c : After-answered)
-    → Answers c.args.self.now.start c.args.self.now.protocol c.args.event c.answered.result c.act-outcome.new.self.protocol
+    → AnswersEvent c.args.self.now.start c.args.self.now.protocol c.args.event c.answered.result c.act-outcome.new.self.protocol
 answers c = search (arith, rules, answers_by_outcome)
 
 stays : (c : After-answered) → c.act-outcome.new.self.start ≡ c.args.self.now.start

@@ -1,6 +1,6 @@
 use Rattle.std.proofs.{Common.{rules, ◌≡◌, ◌+◌, ◌++◌, ◌∷◌, [], length, take, get_or, ◌∙◌, arith, ◌<◌, List, subst}, lemmas.List.{take_more, take_all}}
 use Rattle.pair_record.specs.declared.event.{Event.Event, Event.TheVariants.Step}
-use Rattle.pair_core.specs.{Along.Along, Answering.Answers, Drops.Drops, Replication.{Does, Leads}, Runs.Run, Service.{HasServed, Serves, moment}}
+use Rattle.pair_core.specs.{Along.Along, Answering.AnswersEvent, Drops.Drops, Replication.{Does, Leads}, Runs.Run, Service.{HasServed, Serves, moment}}
 use Rattle.pair_core.proofs.{AlongLaws.along-more, PublicLaws.Begins-trans}
 use Rattle.pair_core.proofs.world.World.run.Goals.{After-loop-event}
 use Rattle.pair_core.proofs.world.World.run.Goals as goal
@@ -31,7 +31,7 @@ loop-event-preserved c =
     let within : i < length events = omega arith in
     let more : take (i + 1) events ≡ take i events ++ get_or events i Step ∷ [] = take_more events i Step within in
     record {
-      replies = rw (more, items) (along-more (Answers start) (take i events) _ _ _ _ (get_or events i Step) _
+      replies = rw (more, items) (along-more (AnswersEvent start) (take i events) _ _ _ _ (get_or events i Step) _
           v.replies (rw v.start at done.answers));
       drops = rw (more, items) (along-more (Drops start) (take i events) _ _ _ _ (get_or events i Step) _
           v.drops (rw v.start at done.drops));

@@ -1,5 +1,5 @@
 use Rattle.std.proofs.Common.{arith, ◌≡◌, ◌∙◌, [], length, ap}
-use Rattle.frame_ports.specs.Numbers.{marked}
+use Rattle.frame_ports.specs.Numbers.{renumbered}
 use Rattle.pair_journal.specs.Journal.{Journal, all_entries}
 use Rattle.pair_record.specs.internal.RecordFields.{record_state}
 use Rattle.pair_journal.specs.laws.Epochs.{all-entered}
@@ -36,4 +36,4 @@ returns-clause-ports c =
     let landed = c.land-landed.ensures.ports
     ∙ lone_ports s.protocol s.ports c.self.invariant.numbers c.next.result c.args.frames.now c.next.ensures.next
     (none (goal.at.returns-clause-ports c).After-next) in
-    rw (← c.self.view_is) (c.mark.ensures ∙ ap marked landed)
+    rw (← c.self.view_is) (c.renumber.ensures ∙ ap renumbered landed)

@@ -1,5 +1,5 @@
 use Rattle.std.proofs.Common.{rules, arith, ◌≡◌, []}
-use Rattle.frame_ports.specs.Numbers.{marked}
+use Rattle.frame_ports.specs.Numbers.{renumbered}
 use Rattle.pair_record.specs.{Protocol.protect_done, internal.RecordFields.record_state}
 use Rattle.pair_record.proofs.{NumberLaws.{protect_numbers, same_numbers}, ProtectLaws.protect_record, RecordLaws.same_record}
 use Rattle.pair_record.proofs.record.PairRecord.protect.Goals as goal
@@ -12,6 +12,6 @@ invariant_of-self-2 c =
     record {
       is = same_record (protect_done r).1 _ (search (arith, rules, none)) (protect_record r c.self.invariant.is alone);
       numbers =
-          same_numbers (protect_done r).1 _ (marked c.self.inside.ports) _ (search (arith, rules, none)) (search (arith, rules))
+          same_numbers (protect_done r).1 _ (renumbered c.self.inside.ports) _ (search (arith, rules, none)) (search (arith, rules))
           (protect_numbers r c.self.inside.ports);
     }

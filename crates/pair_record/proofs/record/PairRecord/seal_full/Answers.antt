@@ -1,5 +1,5 @@
 use Rattle.std.proofs.Common.{rules, arith, ◌≡◌, []}
-use Rattle.frame_ports.specs.Numbers.{marked}
+use Rattle.frame_ports.specs.Numbers.{renumbered}
 use Rattle.pair_record.specs.{Protocol.full_done, internal.RecordFields.record_state}
 use Rattle.pair_record.proofs.{NumberLaws.{full_numbers, same_numbers}, ProtectLaws.{full_record, none_yet}, RecordLaws.same_record}
 use Rattle.pair_record.proofs.record.PairRecord.seal_full.Goals as goal
@@ -13,7 +13,7 @@ invariant_of-self-2 c =
     record {
       is = same_record (full_done r).1 _ (search (arith, rules, none)) (full_record r c.self.invariant.is filling first);
       numbers =
-          same_numbers (full_done r).1 _ (marked c.self.inside.ports) _ (search (arith, rules, none)) (search (arith, rules))
+          same_numbers (full_done r).1 _ (renumbered c.self.inside.ports) _ (search (arith, rules, none)) (search (arith, rules))
           (full_numbers r c.self.inside.ports none);
     }
 

@@ -1,6 +1,6 @@
 use Rattle.std.proofs.Common.{sym, subst}
 use Rattle.checkpoint_stream.specs.ReadBack.{ReadsBack}
-use Rattle.pair_book.proofs.packet.Packet.new.Goals as goal
+use Rattle.pair_book.proofs.packet.TextPacket.new.Goals as goal
 
 pub invariant_of-result : goal.invariant_of-result
 invariant_of-result c =
