@@ -9,7 +9,7 @@ use Rattle.script_player.specs.Streams.{Writing, Writes, WritesFront}
 use Rattle.script_player.specs.laws.Written.{front-after}
 use Rattle.script_player.proofs.ScriptLemmas.{front-still, front-again, written}
 use Rattle.memory_wanted.specs.Wanted.{wanted}
-use Rattle.checkpoint_stream.specs.{FeedAnswers.FeedAnswers, declared.errors.StreamError.TheVariants.{Malformed, NoMemory}}
+use Rattle.checkpoint_stream.specs.{Answers.FeedAnswers, declared.errors.StreamError.TheVariants.{Malformed, NoMemory}}
 use Rattle.checkpoint_stream.specs.{declared.place.Place.{Place, TheVariants.{Whole, Failed}}, Readings.{Reading, fed, taken, is_closed}}
 use Rattle.checkpoint_stream.specs.{Readings.failure_at, Sound.change_in}
 
