@@ -1,6 +1,6 @@
 -- What is read is of the reader's shape.
 use Rattle.std.proofs.Common.{◌≡◌, ℕ, List, refl}
-use Rattle.checkpoint_stream.specs.{Readings.{Reading, fed}, Sound.change_in, FeedAnswers.FeedAnswers}
+use Rattle.checkpoint_stream.specs.{Readings.{Reading, fed}, Sound.change_in, Answers.FeedAnswers}
 use Rattle.checkpoint_stream.specs.declared.errors.StreamError.{StreamError}
 use Rattle.checkpoint_stream.specs.declared.errors.StreamError.TheVariants.{Malformed, NoMemory}
 use Rattle.std.proofs.Common.{Result, Ok, Err, ap, ◌∙◌}
