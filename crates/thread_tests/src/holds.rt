@@ -52,6 +52,6 @@ pub(super) fn serve_in_mid_epoch<P: Pair + Send + Sync, R: Threads + Wait + Abor
 }
 
 #[test]
-fn two_clients_are_served_in_mid_epoch(rt: HostRuntime) {
+fn pace_holds_guest(rt: HostRuntime) {
     plays(&rt, rt.alloc(), Guest::Idle, 2, Course::Held);
 }

@@ -23,9 +23,9 @@ mod live;
 #[cfg(test)]
 mod pairs;
 #[cfg(test)]
-mod releases;
+mod parts_rows;
 #[cfg(test)]
-mod rows;
+mod releases;
 #[cfg(test)]
 mod run_files;
 #[cfg(test)]

@@ -122,7 +122,7 @@ fn runs<R: Threads + Wait + Abort + Sync>(
 }
 
 #[test]
-fn a_run_releases(rt: HostRuntime) {
+fn run_releases(rt: HostRuntime) {
     let plan = Plan {
         epochs: 4,
         steps: 22,
