@@ -3,8 +3,8 @@
 # guests/sha256.c, and guests/deflate.c, which deflates a text and inflates it. Beside it, what part that is of what the interpreter in plain
 # Rust does (oracle/interpreter). Each runs COUNT steps (50000000 if left out) nine times, in turn, and the best time counts, of the
 # processor and not of the clock. Where valgrind is there, it also counts the processor's instructions that a step takes in either, which
-# other work beside doesn't change. A second number says how many steps a line of the script asks for, where it isn't all of them at once: hosts
-# ask for those of a millisecond. REMUS names another program to measure in the place of the repository's own, and LOOPS some of the
+# other work beside doesn't change. A second number says how many steps a line of the script asks for, where it isn't all of them at
+# once: hosts ask for those of a millisecond. REMUS names another program to measure in the place of the repository's own, and LOOPS some of the
 # loops. It needs no cross compiler: guests/build.sh writes the words.
 set -eu
 cd "$(dirname "$0")/.."

@@ -7,8 +7,8 @@ from binascii import hexlify, unhexlify
 PIPE_BYTES = 1 << 20
 BUFFER = 1 << 18  # bytes, above those of a line with a piece of a text
 SET_PIPE_SIZE = 1031  # F_SETPIPE_SZ
-# How the C library serves the node, unless the environment has it otherwise. What a large epoch takes is given back with it, so the next one
-# would get it from the system page by page, which takes longer than the cut itself: up to 256 MiB stay.
+# How the C library serves the node, unless the environment has it otherwise. What a large epoch takes is given back with it, so the next
+# one would get it from the system page by page, which takes longer than the cut itself: up to 256 MiB stay.
 MEMORY = {"MALLOC_MMAP_MAX_": "0", "MALLOC_TRIM_THRESHOLD_": str(256 << 20)}
 WITH_FRAMES, REFUSALS = {b"steps", b"acked", b"alone"}, {b"refused", b"bad"}
 
