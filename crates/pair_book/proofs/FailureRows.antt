@@ -9,7 +9,7 @@ use Rattle.pair_record.specs.declared.event.Event.TheVariants.{AckGet}
 use Rattle.pair_record.specs.declared.event.Refusal.{Refusal}
 use Rattle.pair_record.specs.declared.event.Refusal.TheVariants.{Stale, Gap, Exhausted}
 use Rattle.pair_record.specs.Protocol.{Row, first_refusal, fail_backup_refusals, protect_refusals, ack_refusals}
-use Rattle.pair_record.proofs.WindowLaws.{is_below}
+use Rattle.std.proofs.lemmas.Bool.{leb-false}
 use Rattle.pair_book.specs.declared.failures.Ack.{Ack}
 use Rattle.pair_book.specs.Books.{BookState}
 use Rattle.pair_book.specs.Calls.{is_word_full}
@@ -60,7 +60,7 @@ protect_may b e =
     let rows = two _ _ Exhausted Exhausted parts.1 in (
       parts.0,
       one-row _ Exhausted rows.0,
-      is_below number_limit (b.protocol.generation + 1) rows.0,
+      leb-false number_limit (b.protocol.generation + 1) rows.0,
       word_room b rows.1,
     )
 
@@ -72,7 +72,7 @@ pub ack_may : (b : BookState) (ack : Ack) → ack_why b ack ≡ None
 ack_may b ack e =
     let parts = none-of (mode_refusal b.protocol.mode (AckGet 0)) _ e in
     let rows = four _ _ _ _ Stale Gap Exhausted Exhausted parts.1 in (
-      is_below b.protocol.window.to_commit ack.number rows.1,
+      leb-false b.protocol.window.to_commit ack.number rows.1,
       both _ _ rows.0 rows.2,
       λ some. word some (nat_lt 0 (leaving_at b ack.number)) refl (is_word_full b) refl rows.3,
     )

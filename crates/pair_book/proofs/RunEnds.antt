@@ -18,7 +18,7 @@ use Rattle.pair_history.specs.laws.Waits.{at-waits, waits-guests, rising-without
 use Rattle.pair_history.specs.laws.Waits.{arrived_numbers-append, arrived_numbers-arrivals}
 use Rattle.pair_record.specs.EpochActs.{guest_epoch, behind}
 use Rattle.pair_record.specs.Protocol.{Record}
-use Rattle.pair_record.specs.internal.Accords.{AreInboxes}
+use Rattle.pair_record.specs.Accords.{AreInboxes}
 use Rattle.growing_history.specs.Steps.{Step, step, Begins}
 use Rattle.growing_history.specs.LogState.{LogState, state_at, sealed_state, entries_of, after_step, IsEpoch, IsAlone}
 use Rattle.growing_history.specs.Views.{Member}

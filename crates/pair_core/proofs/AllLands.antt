@@ -10,7 +10,7 @@ use Rattle.pair_record.specs.{declared.window.Window.Window, Modes.is_alone}
 use Rattle.pair_record.specs.Journal.{joined, all_committed, with_history, with_running, with_moves}
 use Rattle.pair_record.specs.Protocol.{all_held, admit_done}
 use Rattle.pair_record.specs.Record.{IsRecord, first_held, ports_landed, ports_after_all, ports_after_admit}
-use Rattle.pair_record.proofs.{AccordLaws.{sent_is, first_lone}, LoneAccords.{all_landed_accords, landed_state, landed_is}, ModeLaws.clash}
+use Rattle.pair_record.specs.laws.{Accords.sent_is, Numbers.first_lone, Alone.{all_landed_accords, landed_state, landed_is}, Modes.clash}
 use Rattle.pair_core.specs.internal.Invariant.{AreNodes, Holds, KeepsNothing, HoldsAmid}
 use Rattle.pair_core.specs.{Nodes.{Node, Nodes, HasShape, with_arrival}, Pair.Pair}
 use Rattle.pair_core.proofs.{Consistent.{alone_is, keeps_nothing}, Events.{admit_stands, two_hold}, LineLaws.named-more}

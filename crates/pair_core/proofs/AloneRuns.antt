@@ -14,7 +14,7 @@ use Rattle.pair_record.specs.Protocol.{Record, Outcome, step_done, step_outcome,
 use Rattle.pair_record.specs.declared.event.Refusal.{Refusal}
 use Rattle.pair_core.specs.{Pair.Pair, Answering.{AnswersEvent, step_reply}, Lines.{Protocol, lines_after}}
 use Rattle.pair_core.specs.Runs.{StepsAnswer, goes_on, steps_outcome}
-use Rattle.pair_record.proofs.ModeLaws.{alone_not_stopped}
+use Rattle.pair_record.specs.laws.Modes.{alone_not_stopped}
 use Rattle.pair_core.proofs.{AllLands.at_once_holds, Consistent.{live_is, alone_is}}
 use Rattle.pair_core.proofs.StepRuns.{steps_stand, step_goes, no-steps-answered, more-answered, replicate-last, one-step-answered}
 use Rattle.pair_record.specs.declared.event.Reply.TheVariants as replies

@@ -7,15 +7,15 @@ use Rattle.output_gate.specs.Epochs.{Epoch}
 use Rattle.pair_history.specs.Entries.{Frame, Entry, Delivered, Refused, DropIn, DropOut, Took}
 use Rattle.pair_history.specs.{HistoryState.{HistoryState, at}, Landings.landings}
 use Rattle.pair_history.specs.laws.Histories.{at-append}
-use Rattle.pair_record.specs.{internal.Accords.Accords, Journal.with_history, declared.window.Window.Window, Modes.is_alone}
+use Rattle.pair_record.specs.{Accords.Accords, Journal.with_history, declared.window.Window.Window, Modes.is_alone}
 use Rattle.pair_record.specs.Protocol.{Record, Outcome, ack_done, deliver_done, delivery_refused, take_done, loss_done, loss_of, loss_reply}
 use Rattle.pair_record.specs.Protocol.{first_refusal, deliver_refusals, loss_refusals, lost_in, lost_out, let_go}
 use Rattle.pair_record.specs.{declared.event.Refusal.Refusal, Record.ports_if_lost}
 use Rattle.pair_record.specs.declared.event.Refusal.TheVariants as refusals
 use Rattle.pair_record.specs.declared.event.Reply.TheVariants as replies
 use Rattle.pair_record.specs.Record.{IsRecord, AreNumbered, ports_after_ack, ports_after_take, ports_after_lose_in, ports_after_lose_out}
-use Rattle.pair_record.proofs.ClientAccords.{ack_lands, ack_accords, take_accords, lose_in_accords, lose_out_accords, deliver_accords}
-use Rattle.pair_record.proofs.{ClientAccords.full_accords, ClientLaws.{lost_waiting, lost_landed, lost_none, delivery_full}}
+use Rattle.pair_record.specs.laws.Clients.{ack_lands, ack_accords, take_accords, lose_in_accords, lose_out_accords, deliver_accords}
+use Rattle.pair_record.specs.laws.{Clients.full_accords, Tables.{lost_waiting, lost_landed, lost_none, delivery_full}}
 use Rattle.pair_core.specs.{internal.Invariant.{AreNodes, Holds}, Kept.KeepsFrames, Pair.{Pair, AfterRefusal, shown_state}}
 use Rattle.pair_core.proofs.{Calls.moved_to, KeptLaws.{keeps_ack, keeps_on, risen-same}, LineLaws.named-more}
 

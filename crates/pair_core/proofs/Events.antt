@@ -9,12 +9,13 @@ use Rattle.frame_ports.specs.{Lands.list_of, Ports.empty_ports}
 use Rattle.pair_history.specs.{Entries.{Frame, Entry}, HistoryState.{start_state}}
 use Rattle.pair_history.specs.Moves.{Move, Arrives, entries_of, guest_along, frames_along, left, AllCan}
 use Rattle.pair_history.specs.laws.Moves.{guest_along-append, frames_along-append}
-use Rattle.pair_record.specs.{internal.Accords.{AreClients, all_moves}, Journal.{with_running}, Modes.{is_alone}}
+use Rattle.pair_record.specs.{Accords.{AreClients, all_moves}, Journal.with_running, Modes.is_alone}
 use Rattle.pair_record.specs.{Protocol.{cut_done, commit_done}, Record.{IsRecord, AreNumbered, ports_after_admit}, Window.with_cut}
 use Rattle.pair_record.specs.Window.{with_commit as with_commit_window}
-use Rattle.pair_record.proofs.AccordLaws.{kept_now, left_now, moves_accord, arrival_accords, mode_accords}
-use Rattle.pair_record.proofs.AccordLaws.{first_sends, some_moves, some_held, shown_after, commit_with, start_accords}
-use Rattle.pair_record.proofs.{ModeLaws.{clash, filled_alone}, LoneAccords.cut_accords}
+use Rattle.pair_record.specs.Accords.{kept_now, left_now}
+use Rattle.pair_record.specs.laws.Accords.{moves_accord, arrival_accords, mode_accords}
+use Rattle.pair_record.specs.laws.Accords.{first_sends, some_moves, some_held, shown_after, commit_accords, start_accords}
+use Rattle.pair_record.specs.laws.{Modes.{clash, filled_alone}, Alone.cut_accords}
 use Rattle.pair_core.specs.internal.Invariant.{first_moves, AreSealed, AreNodes, Holds, HoldsAmid}
 use Rattle.pair_core.specs.Lines.{Lines, packet, with_back, start_protocol, AreNamed}
 use Rattle.pair_core.specs.{Pair.{Pair, shown_state}, Texts.IsText}
@@ -214,7 +215,7 @@ module _ (w : Pair) (h : Holds w) (k : IsRecord w.protocol.state) (numbered : Ar
           let keeps = h.kept two in
           let fits = commit_fits r w.ports w.nodes.image keeps k numbered.held held.0 held.1 held.2 c frames full numbered.left in
           record {
-            accords = commit_with w.start r w.ports h.accords k ms mss p held.0 held.1 held.2;
+            accords = commit_accords w.start r w.ports h.accords k ms mss p held.0 held.1 held.2;
             lines =
                 named-back (commit_done r).1 w.protocol.lines (named-more r w.protocol.lines h.lines (with_commit_window r.window) (omega arith)
                 (omega arith)) n (omega arith);

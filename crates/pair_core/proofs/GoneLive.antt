@@ -2,7 +2,7 @@
 use Rattle.std.proofs.Common.{◌≡◌, ℕ, ◌+◌, ◌<◌, ◌≤◌, [], refl, sym, subst, arith, true, false}
 use Rattle.frame_ports.specs.Limits.{number_limit}
 use Rattle.pair_record.specs.{Modes.is_alone, Record.{owed_to, ports_after_live}, Protocol.go_live_done, Window.none_pending}
-use Rattle.pair_record.proofs.LiveAccords.{live_shown_is, live_accords}
+use Rattle.pair_record.specs.laws.Live.{live_shown_is, live_accords}
 use Rattle.pair_core.specs.internal.Invariant.{AreNodes, Holds}
 use Rattle.pair_core.specs.{Nodes.{HasShape, gone_live}, Pair.{Pair, shown_state}}
 use Rattle.pair_core.proofs.LineLaws.{named-next}

@@ -13,8 +13,9 @@ use Rattle.pair_record.specs.{Kept.{all_frames, frames_by_epoch, Brings}, Limits
 use Rattle.pair_record.specs.Protocol.{Record, seal_done, commit_done, ack_done}
 use Rattle.pair_record.specs.Record.{IsRecord, AreNumbered, ports_after_ack}
 use Rattle.pair_record.specs.Window.{IsWindow, committed_of, uncommitted_of, committed_count}
-use Rattle.pair_record.proofs.OwedLaws.{EndOwed, count-push, owed_brings, owed_on, owed_sealed, owed_committed, owed_acked, owed_last}
-use Rattle.pair_record.proofs.{NumberLaws.in_two, RecordLaws.commit_record}
+use Rattle.pair_record.specs.Kept.{EndOwed}
+use Rattle.pair_record.specs.laws.Owed.{count-push, owed_brings, owed_on, owed_sealed, owed_committed, owed_acked, owed_last}
+use Rattle.pair_record.specs.laws.{Numbers.in_two, Records.commit_record}
 use Rattle.pair_core.specs.Kept.{KeepsFrames, first_kept}
 
 pub count-kept : (lists : List (List Frame)) → count_kept lists ≡ length (all_frames lists)

@@ -6,7 +6,7 @@ use Rattle.guest_machine.specs.Guest.{Guest}
 use Rattle.epoch_snapshot.specs.Bases.{IsBase}
 use Rattle.frame_ports.specs.Limits.{number_limit}
 use Rattle.pair_history.specs.Moves.{Move, guest_along, frames_along}
-use Rattle.pair_record.specs.internal.Accords.{Accords, all_moves}
+use Rattle.pair_record.specs.Accords.{Accords, all_moves}
 use Rattle.pair_record.specs.{Modes.is_alone, Protocol.Record}
 use Rattle.pair_core.specs.Kept.{KeepsFrames}
 use Rattle.pair_core.specs.Lines.{AreNamed}

@@ -8,7 +8,7 @@ use Rattle.pair_record.specs.Record.{ports_after_ack}
 use Rattle.pair_core.specs.internal.WorldFields.{pair_of}
 use Rattle.pair_history.specs.laws.Landings.{length-landings}
 use Rattle.pair_core.proofs.{Calls.{after_call, on_err_so}, ClientEvents.ack_holds, LineLaws.below_at, Outcomes.goes}
-use Rattle.pair_record.proofs.RecordLaws.{passed, generation_is}
+use Rattle.pair_record.specs.laws.Tables.{passed, same_generation}
 use Rattle.pair_core.proofs.world.World.ack_get.Goals as goal
 
 -- an acknowledgement of this generation names a checkpoint that was committed
@@ -22,7 +22,7 @@ acknowledge-requires-clause-committed c =
     let w = pair_of c.self.inside in
     let p = c.in-Some.packet in
     let same =
-    generation_is p.generation w.protocol.state.generation (passed _ _ _ (sym c.ack_refusal.ensures.refusal
+    same_generation p.generation w.protocol.state.generation (passed _ _ _ (sym c.ack_refusal.ensures.refusal
     ∙ c.in_default-ack_refusal.is)).0 in
     below w c.self.invariant c.args.k p _ c.acknowledgement.ensures c.in-Some.is same
 
@@ -31,7 +31,7 @@ invariant_of-self c =
     let w = pair_of c.self.inside in
     let p = c.in-Some.packet in
     let same =
-    generation_is p.generation w.protocol.state.generation (passed _ _ _ (sym c.ack_refusal.ensures.refusal ∙ c.in_default-ack_refusal.is)).0 in
+    same_generation p.generation w.protocol.state.generation (passed _ _ _ (sym c.ack_refusal.ensures.refusal ∙ c.in_default-ack_refusal.is)).0 in
     after_call w c.self.invariant c.acknowledge.new.self c.acknowledge.result (ack_done w.ports.boxes w.protocol.state p.number)
     (ports_after_ack w.ports w.protocol.state p.number)
     c.acknowledge.ensures.ok c.acknowledge.ensures.ports c.acknowledge.ensures.err

@@ -7,9 +7,9 @@ use Rattle.pair_record.specs.Protocol.{Outcome, cut_refusals, cut_done}
 use Rattle.pair_core.specs.internal.WorldFields.{pair_of}
 use Rattle.epoch_snapshot.specs.Bases.{IsBase}
 use Rattle.guest_machine.specs.Guest.{Guest}
-use Rattle.pair_record.proofs.ModeLaws.{primary_goes}
+use Rattle.pair_record.specs.laws.Modes.{primary_goes}
 use Rattle.pair_core.proofs.{Consistent.{in_mode, live_is}, ReplicationLaws.{after_cut, cut_replicates}}
-use Rattle.pair_record.proofs.RecordLaws.{cut_record}
+use Rattle.pair_record.specs.laws.Records.{cut_record}
 use Rattle.pair_core.proofs.{Events.cut_holds, Outcomes.{goes, cut_sight}, world.World.cut.Goals.In_ok-reply}
 use Rattle.pair_core.proofs.world.World.cut.Goals as goal
 

@@ -2,7 +2,7 @@ use Rattle.std.proofs.Common.{rules, ◌≡◌, ◌∙◌, false, None, ap, leng
 use Rattle.frame_ports.specs.Ports.{after_delivery}
 use Rattle.pair_record.specs.declared.event.Event.TheVariants.{Deliver}
 use Rattle.pair_record.specs.Protocol.{Outcome, allowed, deliver_refusals, deliver_done, delivery_refused}
-use Rattle.pair_record.proofs.ClientLaws.{delivery_free}
+use Rattle.pair_record.specs.laws.Tables.{delivery_free}
 use Rattle.pair_core.specs.Pair.{Pair, AfterRefusal}
 use Rattle.pair_core.specs.internal.WorldFields.{pair_of}
 use Rattle.frame_ports.specs.Lands.{list_of}

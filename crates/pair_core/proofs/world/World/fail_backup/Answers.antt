@@ -5,7 +5,7 @@ use Rattle.pair_record.specs.Protocol.{Outcome, first_refusal, fail_backup_refus
 use Rattle.pair_core.specs.{internal.Invariant.Holds, Nodes.left_alone}
 use Rattle.pair_record.specs.{Record.ports_after_all, Window.none_pending}
 use Rattle.pair_core.specs.internal.WorldFields.{pair_of}
-use Rattle.pair_record.proofs.ModeLaws.{failure_goes}
+use Rattle.pair_record.specs.laws.Modes.{failure_goes}
 use Rattle.pair_core.proofs.{AllLands.all_landed_holds, Calls.on_err, Consistent.some_cut, Outcomes.{stops, goes, fail_backup_sight}}
 use Rattle.pair_core.proofs.world.World.fail_backup.Goals.{After-fail_backup_refusal}
 use Rattle.pair_core.proofs.world.World.fail_backup.Goals as goal

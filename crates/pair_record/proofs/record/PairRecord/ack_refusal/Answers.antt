@@ -1,6 +1,6 @@
 use Rattle.std.proofs.Common.{◌∙◌, sym, ap, cond, Some, None}
 use Rattle.pair_record.specs.{declared.event.Refusal.TheVariants.Exhausted, Protocol.exhausts, Record.RecordState}
-use Rattle.pair_record.proofs.RecordLaws.{ack_row}
+use Rattle.pair_record.specs.laws.Tables.{ack_row}
 use Rattle.pair_record.proofs.record.PairRecord.ack_refusal.Goals as goal
 
 pub returns-then-is_exhausted_by-clause-refusal : goal.returns-then-is_exhausted_by-clause-refusal

@@ -3,8 +3,8 @@ use Rattle.frame_ports.specs.Addresses.{targets_of}
 use Rattle.pair_history.specs.Entries.{Frame}
 use Rattle.output_gate.specs.Epochs.{frames_to}
 use Rattle.pair_record.specs.{Protocol.ack_done, Record.ports_after_ack, internal.RecordFields.record_state}
-use Rattle.pair_record.proofs.NumberLaws.{ack_numbers, let_go_count, let_go_ports, none_came, same_numbers}
-use Rattle.pair_record.proofs.RecordLaws.{passed, has_room_for, ack_record, same_record}
+use Rattle.pair_record.specs.laws.Numbers.{ack_numbers, let_go_count, let_go_ports, none_came, same_numbers}
+use Rattle.pair_record.specs.laws.{Tables.{passed, has_room_for}, Records.{ack_record, same_record}}
 use Rattle.pair_record.proofs.record.PairRecord.acknowledge.Goals.{After-land-landed}
 use Rattle.pair_record.proofs.record.PairRecord.acknowledge.Goals as goal
 

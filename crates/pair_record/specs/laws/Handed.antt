@@ -1,21 +1,51 @@
 -- Epochs of a guest that runs elsewhere: it took in the first of the frames that were handed out, and made steps behind them.
-use Rattle.std.proofs.Common.{◌≡◌, ℕ, ◌+◌, List, [], ◌++◌, length, replicate, refl, sym, ap, ◌∙◌, subst, append_assoc}
+use Rattle.std.proofs.Common.{◌≡◌, ℕ, ◌+◌, List, [], ◌++◌, length, replicate, refl, sym, ap, ◌∙◌, subst, append_assoc, zero, suc, ◌∷◌}
 use Rattle.std.proofs.lemmas.List.{map-append}
 use Rattle.frame_ports.specs.{Addresses.targets_of, Ports.PortsState}
 use Rattle.output_gate.specs.Epochs.{frames_of}
-use Rattle.pair_history.specs.{Entries.{Frame, Entry}, HistoryState.{HistoryState, sent_along}}
-use Rattle.pair_history.specs.Moves.{Move, Steps, entry_of, entries_of, guest_along, frames_along, left, AllCan}
-use Rattle.pair_history.specs.laws.Moves.{moved, AllCan-append, AllCan-front, AllCan-back, left-append, sent_along-moves}
-use Rattle.pair_record.specs.internal.Accords.{Accords}
+use Rattle.pair_history.specs.{Entries.{Frame, Entry, Ran, Arrive}, HistoryState.{HistoryState, sent_along}, Moves.{Move, Steps}}
+use Rattle.pair_history.specs.Moves.{entry_of, entries_of, guest_along, frames_along, left, AllCan, Arrives}
+use Rattle.pair_history.specs.laws.Moves.{moved, AllCan-append, AllCan-front, AllCan-back, left-append, sent_along-moves, entries-steps}
+use Rattle.pair_history.specs.laws.Moves.{can-steps, left-steps}
+use Rattle.pair_record.specs.{Accords.{Accords, sealed_now, left_now}, EpochActs.{epoch_sent, seal_epoch_done, enter_epoch_done}}
+use Rattle.pair_record.specs.{EpochActs.{fail_within_done, up_to, behind}, Protocol.{Record, shown_at, landed_after}, Record.IsRecord}
+use Rattle.pair_record.specs.{Record.{IsLone, first_held, ports_landed, ports_after_all}, Window.none_pending}
 use Rattle.pair_journal.specs.Epochs.{behind, guest_epoch}
-use Rattle.pair_record.specs.EpochActs.{epoch_sent, seal_epoch_done, enter_epoch_done, fail_within_done}
-use Rattle.pair_record.specs.Protocol.{Record, shown_at, landed_after}
-use Rattle.pair_record.specs.{Record.{IsRecord, IsLone, first_held, ports_landed, ports_after_all}, Window.none_pending}
-use Rattle.pair_record.proofs.AccordLaws.{sealed_now, left_now, sealed_state, first_lone}
-use Rattle.pair_record.proofs.EpochAccords.{seal_accords, landed_accords}
-use Rattle.pair_record.proofs.EpochLaws.{Parts, parts, entries-steps, can-steps, left-steps}
-use Rattle.pair_record.proofs.WindowLaws.{within}
+use Rattle.pair_record.specs.laws.{Accords.sealed_state, Numbers.first_lone, Epochs.{seal_accords, landed_accords}, Windows.within}
 use Rattle.failover.specs.declared.mode.Mode.TheVariants as modes
+
+-- MOVES up to so many arrivals, and those behind
+
+pub record Parts (n : ℕ) (ms : List Move) : Type 0 where
+  pub came : List Move
+  pub held : List Move
+  pub whole : ms ≡ came ++ held
+  pub first : up_to n (entries_of ms) ≡ entries_of came
+  pub others : behind n (entries_of ms) ≡ entries_of held
+
+pub parts : (n : ℕ) (ms : List Move) → Parts n ms
+parts zero ms = record { came = []; held = ms; whole = refl; first = refl; others = refl }
+parts (suc n) [] = record { came = []; held = []; whole = refl; first = refl; others = refl }
+parts (suc n) (Steps ∷ ms) =
+    let t = parts (suc n) ms in
+    record {
+      came = Steps ∷ t.came;
+      held = t.held;
+      whole = ap (λ x. Steps ∷ x) t.whole;
+      first = ap (λ x. Ran ∷ x) t.first;
+      others = t.others;
+    }
+parts (suc n) (Arrives k f ∷ ms) =
+    let t = parts n ms in
+    record {
+      came = Arrives k f ∷ t.came;
+      held = t.held;
+      whole = ap (λ x. Arrives k f ∷ x) t.whole;
+      first = ap (λ x. Arrive k ∷ x) t.first;
+      others = t.others;
+    }
+
+-- THE EPOCH that such a guest ends
 
 module _ (start : HistoryState) (r : Record) (p : PortsState) (h : Accords start r p) (arrivals steps : ℕ) where
   abbrev s : HistoryState

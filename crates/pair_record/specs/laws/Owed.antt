@@ -1,27 +1,24 @@
 -- Lists of frames that end with what the gate holds of committed checkpoints stay such through each event: those that a backup keeps, and
 -- those of all that it has committed.
-use Rattle.std.proofs.Common.{◌≡◌, ℕ, suc, ◌+◌, ◌-◌, ◌<◌, ◌≤◌, List, [], ◌∷◌, ◌++◌, length, take, drop, sym, ap, ◌∙◌, subst, arith, append_assoc, refl}
-use Rattle.std.proofs.lemmas.List.{append-nil, drop-append-le, length-append, length-map, map-append, take-append-drop, take-append-le}
+use Rattle.std.proofs.Common.{◌≡◌, ℕ, ◌+◌, ◌-◌, ◌<◌, ◌≤◌, List, [], ◌∷◌, ◌++◌, length, take, drop, sym, ap, ◌∙◌, subst, arith}
+use Rattle.std.proofs.{Common.{append_assoc, refl}, lemmas.List.{append-nil, drop-append-le, length-append, length-map, map-append}}
+use Rattle.std.proofs.lemmas.List.{take-append-drop, take-append-le, take_all}
 use Rattle.frame_ports.specs.Ports.{PortsState}
-use Rattle.output_gate.specs.Epochs.{Epoch, frames_of, frames_to}
-use Rattle.output_gate.specs.Landings.{ports_after, AreOld, HaveRisen}
-use Rattle.output_gate.specs.laws.Ports.{risen-same, risen-after}
-use Rattle.output_gate.specs.laws.Old.{old-after, old-append, old-back, old-risen}
-use Rattle.pair_history.specs.Entries.{Frame, Entry}
-use Rattle.pair_record.specs.{Kept.{all_frames, frames_by_epoch, Brings}, FailureActs.first_uncommitted}
-use Rattle.pair_record.specs.Protocol.{Record, seal_done, commit_done, ack_done}
-use Rattle.pair_record.specs.Record.{IsRecord, AreNumbered, first_held, ports_after_ack}
-use Rattle.pair_record.specs.Window.{IsWindow, committed_of, uncommitted_of, committed_count}
-use Rattle.pair_record.proofs.{AccordLaws.next_epoch, AloneLaws.frames_of-push, KeptLists.{all_frames-append, all_frames-epochs}}
-use Rattle.pair_record.proofs.{NumberLaws.{in_two, landed_ports}, WindowLaws.{leaves, gone, committed_left, uncommitted_left, within}}
+use Rattle.output_gate.specs.{Epochs.{Epoch, frames_of, frames_to}, Landings.{ports_after, AreOld, HaveRisen}}
+use Rattle.output_gate.specs.laws.{Ports.{risen-same, risen-after, ports_after-append}, Old.{old-after, old-append, old-back, old-risen}}
+use Rattle.output_gate.specs.laws.Old.{ports_after-old}
+use Rattle.pair_history.specs.{Entries.{Frame, Entry}, Landings.landings}
+use Rattle.pair_record.specs.Kept.{all_frames, frames_by_epoch, Brings, EndOwed, entries_after, brought, brought_entries, ports_after_brought}
+use Rattle.pair_record.specs.{FailureActs.first_uncommitted, Protocol.{Record, seal_done, commit_done, ack_done}, Record.IsRecord}
+use Rattle.pair_record.specs.{Record.{AreNumbered, first_held, ports_after_ack, owed_to, ports_after_live}, Window.IsWindow}
+use Rattle.pair_record.specs.{Window.{committed_of, uncommitted_of, committed_count}, Tables.Record}
+use Rattle.pair_record.specs.laws.{Accords.next_epoch, Windows.{frames_of-push, next_committed, leaves, gone, committed_left, uncommitted_left, within}}
+use Rattle.pair_record.specs.laws.Numbers.{in_two, landed_ports, each_below, first_positive}
+use Rattle.pair_journal.specs.laws.Landed.{all_frames-append, entries-append, entries-new, entries-old}
 
--- These lists, whose first frame has that number, end so, epoch by epoch; the frames of the older ones have come for each of their clients;
--- and behind all of them comes the first frame that isn't committed.
-pub record EndOwed (r : Record) (p : PortsState) (first : ℕ) (lists : List (List Frame)) : Type 0 where
-  pub older : List (List Frame)
-  pub all : lists ≡ older ++ frames_by_epoch (committed_of r.window r.pending)
-  pub came : AreOld p first (all_frames older)
-  pub count : first + length (all_frames lists) ≡ first_uncommitted r
+pub all_frames-epochs : (es : List Epoch) → all_frames (frames_by_epoch es) ≡ frames_of es
+all_frames-epochs [] = refl
+all_frames-epochs (e ∷ es) = ap (λ (t : List Frame). e.frames ++ t) (all_frames-epochs es)
 
 -- the frames of one list more
 pub count-push : (fss : List (List Frame)) (fs : List Frame) → length (all_frames (fss ++ fs ∷ [])) ≡ length (all_frames fss) + length fs
@@ -79,9 +76,9 @@ module _ (r : Record) (p : PortsState) (first : ℕ) (lists : List (List Frame))
   owed_committed k held e us is =
       let m = committed_count r.window in
       let next = next_epoch m r.pending e us is in
-      let one_more : (r.window.to_commit + 1) - r.window.to_acknowledge ≡ suc m = let w = k.window.committed in omega (arith, w) in
-      let now : committed_of (commit_done r).1.window r.pending ≡ owed ++ e ∷ [] = ap (λ n. take n r.pending) one_more ∙ next.0 in
-      let left : uncommitted_of (commit_done r).1.window r.pending ≡ us = ap (λ n. drop n r.pending) one_more ∙ next.1 in
+      let more = next_committed r.window r.pending k.window in
+      let now : committed_of (commit_done r).1.window r.pending ≡ owed ++ e ∷ [] = ap (λ n. take n r.pending) more ∙ next.0 in
+      let left : uncommitted_of (commit_done r).1.window r.pending ≡ us = ap (λ n. drop n r.pending) more ∙ next.1 in
       let others = ap (λ (es : List Epoch). length (frames_of es)) is ∙ length-append e.frames (frames_of us) in
       let rest = ap (λ (es : List Epoch). length (frames_of es)) left in
       record {
@@ -158,3 +155,35 @@ module _ (r : Record) (p : PortsState) (first : ℕ) (lists : List (List Frame))
             (old-back p first (all_frames (take n h.older)) (all_frames rest) (subst (AreOld p first) whole h.came));
         count = omega (arith, place, halves, all, owed_count, h.count);
       }
+
+-- WHAT A BACKUP BRINGS that goes live lands as what the gate held of committed checkpoints
+
+module _ (r : Record) (p : PortsState) (h : AreNumbered r p) (first : ℕ) (lists : List (List Frame)) (b : Brings r p first lists) where
+  abbrev committed : List Frame
+  committed = frames_of (committed_of r.window r.pending)
+
+  -- all of it was committed
+  brought_all : brought r first lists ≡ b.older ++ committed
+  brought_all =
+      let all = ap (λ (fs : List Frame). length fs) b.all ∙ length-append b.older committed in
+      let a = b.number in
+      let c = in_two r in
+      let d = h.held in
+      take_all (first_uncommitted r - first) (all_frames lists) (omega arith) ∙ b.all
+
+  -- what lands, and where
+  pub brought_ports : ports_after_brought p r first lists ≡ ports_after_live p r
+  brought_ports =
+      ap (ports_after p first) brought_all
+      ∙ ports_after-append p first b.older committed
+      ∙ ap (λ n. ports_after (ports_after p first b.older) n committed) b.number
+      ∙ ap (λ (q : PortsState). ports_after q (first_held r) committed) (ports_after-old p first b.older b.came)
+      ∙ landed_ports r p h committed
+
+  pub brought_landings : brought_entries r p first lists ≡ landings p.boxes (owed_to r p)
+  brought_landings =
+      ap (entries_after p first) brought_all
+      ∙ entries-append p first (first_held r) b.older committed (sym b.number)
+      ∙ ap (λ es. es ++ entries_after (ports_after p first b.older) (first_held r) committed) (entries-old p first b.older b.came)
+      ∙ ap (λ (q : PortsState). entries_after q (first_held r) committed) (ports_after-old p first b.older b.came)
+      ∙ entries-new p (first_held r) committed (each_below p (first_held r) (first_positive r p h) h.new)

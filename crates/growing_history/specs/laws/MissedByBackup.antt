@@ -9,7 +9,7 @@ use Rattle.growing_history.specs.LogState.{LogState, start_of, IsAlone, MaySeal,
 use Rattle.growing_history.specs.LogState.{state_at}
 use Rattle.growing_history.specs.laws.Logs.{numbers, numbers-rise}
 use Rattle.growing_history.specs.laws.Between.{none-first, none-between, same, later}
-use Rattle.growing_history.proofs.LinesFirst.{entries-guest}
+use Rattle.growing_history.specs.laws.LinesFirst.{entries-guest}
 use Rattle.failover.specs.Modes.{is_filling}
 
 -- A backup whose pair isn't alone now wasn't alone then; it is filled now where it was then, and then the history has the guest that it

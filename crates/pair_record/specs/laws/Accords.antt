@@ -1,35 +1,28 @@
 -- What the calls of the record keep: one lemma for each event of the guest and of the backup.
-use Rattle.std.proofs.Common.{rules, ◌≡◌, ◌≢◌, ℕ, zero, suc, ◌+◌, ◌-◌, ◌<◌, ◌≤◌, List, [], ◌∷◌, ◌++◌, length, take, drop, remove}
-use Rattle.std.proofs.Common.{get_or, replicate, refl, sym, ap, ◌∙◌, subst, arith, append_assoc, true, false, cond, Some, ⊎_elim}
-use Rattle.std.proofs.{lemmas.Bool.eq-eqb, lemmas.Bool.Decides.{nat_tests, eqb_tells}}
-use Rattle.std.proofs.lemmas.List.{append-nil, length-map, length-replicate, length-set, map-append, get_or-set_same, get_or-set_other}
-use Rattle.std.proofs.lemmas.List.{take-append-drop}
+use Rattle.std.proofs.Common.{rules, ◌≡◌, ◌≢◌, ℕ, zero, suc, ◌-◌, ◌<◌, ◌≤◌, List, [], ◌∷◌, ◌++◌, length, take, drop, remove, get_or}
+use Rattle.std.proofs.Common.{replicate, refl, sym, ap, ◌∙◌, subst, arith, append_assoc, true, false, cond, Some, ⊎_elim}
+use Rattle.std.proofs.{lemmas.Bool.{eq-eqb, ne_eqb}, lemmas.Bool.Decides.{eqb_tells}, lemmas.List.{append-nil, length-map}}
+use Rattle.std.proofs.lemmas.List.{length-replicate, length-set, map-append, get_or-set_same, get_or-set_other, take-append-drop}
 use Rattle.std.specs.Prelude.{map, slice_get, ◌==◌}
 use Rattle.guest_machine.specs.Guest.{Guest}
 use Rattle.frame_ports.specs.{Addresses.targets_of, Lands.{list_of, with_list}, Ports.{PortsState, empty_ports}}
 use Rattle.failover.specs.declared.mode.Mode.{Mode}
-use Rattle.output_gate.specs.Epochs.{Epoch, frames_of}
-pub use Rattle.output_gate.specs.laws.Epochs.{frames_of-append}
-use Rattle.pair_history.specs.Entries.{Frame, Entry}
-use Rattle.pair_history.specs.HistoryState.{HistoryState, Waiting, inbox_of, without_number, at, Legal, start_state}
-use Rattle.pair_history.specs.Landings.{DropsAreAskedOrFull}
-use Rattle.pair_history.specs.Moves.{Move, Arrives, entry_of, entries_of, guest_along, frames_along, left, AllCan}
-use Rattle.pair_history.specs.laws.Histories.{at-append, Legal-append}
-use Rattle.frame_ports.specs.laws.Addresses.{targets_of-append}
-use Rattle.pair_history.specs.laws.Landings.{BoxesFit-empty}
-use Rattle.pair_history.specs.laws.Waiting.{Leaves, StandsAt, leaves-at}
+use Rattle.output_gate.specs.{Epochs.{Epoch, frames_of}, laws.Epochs.frames_of-append}
+use Rattle.pair_history.specs.{Entries.{Frame, Entry}, HistoryState.{HistoryState, Waiting, inbox_of, without_number, at, Legal}}
+use Rattle.pair_history.specs.{HistoryState.start_state, Landings.DropsAreAskedOrFull, Moves.{Move, Arrives, entry_of, entries_of}}
+use Rattle.pair_history.specs.Moves.{guest_along, frames_along, left, AllCan}
+use Rattle.pair_history.specs.laws.{Histories.{at-append, Legal-append}, Landings.BoxesFit-empty, Waiting.{Leaves, StandsAt, leaves-at}}
 use Rattle.pair_history.specs.laws.Moves.{guest_along-append, frames_along-append, left-append, AllCan-append, AllCan-front, AllCan-back}
-use Rattle.pair_history.specs.laws.Moves.{moved}
-use Rattle.pair_history.specs.laws.Moves.{at-moves, Legal-moves, sent_along-moves}
-use Rattle.pair_history.specs.laws.Losses.{AreRising-left}
+use Rattle.pair_history.specs.laws.{Moves.{moved, at-moves, Legal-moves, sent_along-moves, AreGuests-moves}, Losses.AreRising-left}
 use Rattle.pair_history.specs.laws.Drops.{DropsAreAskedOrFull-append, DropsAreAskedOrFull-guests}
-use Rattle.pair_history.specs.laws.Moves.{AreGuests-moves}
-use Rattle.pair_record.specs.internal.Accords.{all_moves, epoch_frames, frames_by_epoch, kept_moves, AreInboxes, AreClients}
-use Rattle.pair_record.specs.internal.Accords.{Accords}
+use Rattle.frame_ports.specs.laws.Addresses.{targets_of-append}
+use Rattle.pair_record.specs.Accords.{all_moves, epoch_frames, frames_by_epoch, AreInboxes, AreClients, Accords, sealed_now}
+use Rattle.pair_record.specs.{Accords.{kept_now, left_now}, Record.{IsRecord, start_record, ports_after_admit}}
+use Rattle.pair_record.specs.{Protocol.{Record, shown_at, live_at, outbox_of, commit_done}, Window.{committed_of, uncommitted_of}}
+use Rattle.pair_record.specs.Window.{committed_count}
+use Rattle.pair_history.specs.Reached.{AreRising}
+use Rattle.pair_record.specs.laws.Windows.{next_committed}
 use Rattle.pair_journal.specs.Journal.{joined, first_of, rest_of, kept_entries, with_running}
-use Rattle.pair_record.specs.Record.{IsRecord, start_record, first_held, ports_after_admit}
-use Rattle.pair_record.specs.Protocol.{Record, shown_at, live_at, outbox_of, commit_done}
-use Rattle.pair_record.specs.Window.{committed_of, uncommitted_of, committed_count}
 
 -- Lists of epochs
 
@@ -69,56 +62,46 @@ of_epochs g (k ∷ mss) (x ∷ es) e =
 -- WHAT THE KEPT ENTRIES DO to the state that clients see
 
 module _ (start : HistoryState) (r : Record) (p : PortsState) (h : Accords start r p) where
-  abbrev pub sealed_now : List Move
-  sealed_now = all_moves h.journal.sealed_moves
-
-  abbrev pub kept_now : List Move
-  kept_now = kept_moves start r.journal h.journal
-
-  -- what still waits after it
-  abbrev pub left_now : List Waiting
-  left_now = left (shown_at start r).waiting kept_now
-
-  pub sealed_entries : joined r.journal.sealed ≡ entries_of sealed_now
+  pub sealed_entries : joined r.journal.sealed ≡ entries_of (sealed_now start r p h)
   sealed_entries = ap joined h.journal.sealed_are ∙ joined-entries h.journal.sealed_moves
 
-  pub kept_is : kept_entries r.journal ≡ entries_of kept_now
+  pub kept_is : kept_entries r.journal ≡ entries_of (kept_now start r p h)
   kept_is = search (arith, rules, map-append, sealed_entries)
 
-  pub live_is_moved : live_at start r ≡ moved (shown_at start r) kept_now
+  pub live_is_moved : live_at start r ≡ moved (shown_at start r) (kept_now start r p h)
   live_is_moved = at-append start r.journal.history (kept_entries r.journal) ∙ ap (at (shown_at start r)) kept_is
-      ∙ at-moves (shown_at start r) kept_now h.journal.can
+      ∙ at-moves (shown_at start r) (kept_now start r p h) h.journal.can
 
-  pub live_guest : (live_at start r).guest ≡ guest_along (shown_at start r).guest kept_now
+  pub live_guest : (live_at start r).guest ≡ guest_along (shown_at start r).guest (kept_now start r p h)
   live_guest = ap (λ s. s.guest) live_is_moved
 
-  pub live_waiting : (live_at start r).waiting ≡ left_now
+  pub live_waiting : (live_at start r).waiting ≡ (left_now start r p h)
   live_waiting = ap (λ s. s.waiting) live_is_moved
 
-  pub sealed_state : at start (r.journal.history ++ joined r.journal.sealed) ≡ moved (shown_at start r) sealed_now
+  pub sealed_state : at start (r.journal.history ++ joined r.journal.sealed) ≡ moved (shown_at start r) (sealed_now start r p h)
   sealed_state = search (arith, rules, AllCan-front, at-append, at-moves, sealed_entries)
 
   -- what the guest sent along the epoch that runs
-  pub sent_is : outbox_of start r ≡ frames_along (guest_along (shown_at start r).guest sealed_now) h.journal.running_moves
+  pub sent_is : outbox_of start r ≡ frames_along (guest_along (shown_at start r).guest (sealed_now start r p h)) h.journal.running_moves
   sent_is = search (arith, rules, AllCan-back, moved, sealed_state, sent_along-moves)
 
   -- Where these frames were sent along an epoch behind what is sealed
   module _ (epoch : List Move) (outbox : List Frame)
-      (sent : outbox ≡ frames_along (guest_along (shown_at start r).guest sealed_now) epoch) where
+      (sent : outbox ≡ frames_along (guest_along (shown_at start r).guest (sealed_now start r p h)) epoch) where
     -- those sent along all of it
-    frames_with : frames_along (shown_at start r).guest (sealed_now ++ epoch) ≡ frames_of (uncommitted_of r.window r.pending) ++ outbox
+    frames_with : frames_along (shown_at start r).guest ((sealed_now start r p h) ++ epoch) ≡ frames_of (uncommitted_of r.window r.pending) ++ outbox
     frames_with =
-        frames_along-append (shown_at start r).guest sealed_now epoch
-        ∙ ap (λ t. t ++ frames_along (guest_along (shown_at start r).guest sealed_now) epoch)
+        frames_along-append (shown_at start r).guest (sealed_now start r p h) epoch
+        ∙ ap (λ t. t ++ frames_along (guest_along (shown_at start r).guest (sealed_now start r p h)) epoch)
         (sym (of_epochs (shown_at start r).guest h.journal.sealed_moves (uncommitted_of r.window r.pending) h.frames))
         ∙ ap (λ t. frames_of (uncommitted_of r.window r.pending) ++ t) (sym sent)
 
-    pub owed_with : targets_of (length p.boxes) (frames_of r.pending ++ outbox) ≡ (moved (shown_at start r) (sealed_now ++ epoch)).out
+    pub owed_with : targets_of (length p.boxes) (frames_of r.pending ++ outbox) ≡ (moved (shown_at start r) ((sealed_now start r p h) ++ epoch)).out
     owed_with =
         let n = length p.boxes in
         let covered = committed_of r.window r.pending in
         let others = uncommitted_of r.window r.pending in
-        let ms = sealed_now ++ epoch in
+        let ms = (sealed_now start r p h) ++ epoch in
         ap (λ t. targets_of n (frames_of t ++ outbox)) (sym (take-append-drop (committed_count r.window) r.pending))
         ∙ ap (λ t. targets_of n (t ++ outbox)) (frames_of-append covered others)
         ∙ ap (targets_of n) (append_assoc (frames_of covered) (frames_of others) outbox)
@@ -191,9 +174,6 @@ module _ (count c : ℕ) (inboxes : List (List (ℕ × Frame))) (new : List (ℕ
       get_or-set_other inboxes (c - 1) (d - 1) new [] apart.1 ∙ are d l k ∙ others d (λ (e : d ≡ c). apart.1 (ap (λ j. j - 1) e)))
       (eqb_tells (d - 1) (c - 1))
 
-pub apart : (a b : ℕ) → a ≢ b → (a == b) ≡ false
-apart a b h = grind (arith, nat_tests)
-
 abbrev pub arrival_accords : (start : HistoryState) (r : Record) (p : PortsState) (h : Accords start r p) (c n : ℕ) (f : Frame) → 1 ≤ c
     → c ≤ length p.boxes
     → slice_get (list_of p.inboxes c) 0 ≡ Some (n, f)
@@ -219,7 +199,7 @@ arrival_accords start r p h c n f low high first =
             inboxes =
                 AreInboxes-with (length p.boxes) c inboxes (drop 1 (list_of inboxes c)) ws (without_number n ws) low high k.count k.inboxes
                 (ap (drop 1) mine ∙ sym (leaves.1 c ∙ ap (λ t. cond t (remove (inbox_of c ws) 0) (inbox_of c ws)) same))
-                (λ d other. sym (leaves.1 d ∙ ap (λ t. cond t (remove (inbox_of c ws) 0) (inbox_of d ws)) (apart d c other)));
+                (λ d other. sym (leaves.1 d ∙ ap (λ t. cond t (remove (inbox_of c ws) 0) (inbox_of d ws)) (ne_eqb d c other)));
             boxes = k.boxes;
             fit = k.fit;
           }),
@@ -271,8 +251,17 @@ module _ (start : HistoryState) (r : Record) (p : PortsState) (h : Accords start
         ap frames_by_epoch (sym us_is) ∙ h.frames ∙ ap (epoch_frames s.guest) moves_are in
         cc
 
-    abbrev pub commit_with : (e : Epoch) (us : List Epoch) → uncommitted_of r.window r.pending ≡ e ∷ us → Accords start (commit_done r).1 p
-    commit_with e us us_is =
+    -- and those of the others, what it sends after them
+    pub others_send : (e : Epoch) (us : List Epoch) → uncommitted_of r.window r.pending ≡ e ∷ us
+        → frames_by_epoch us ≡ epoch_frames (guest_along (shown_at start r).guest ms) mss
+    others_send e us us_is =
+        let s = shown_at start r in
+        let sents : e.frames ∷ frames_by_epoch us ≡ frames_along s.guest ms ∷ epoch_frames (guest_along s.guest ms) mss =
+        ap frames_by_epoch (sym us_is) ∙ h.frames ∙ ap (epoch_frames s.guest) moves_are in
+        cc
+
+    abbrev pub commit_accords : (e : Epoch) (us : List Epoch) → uncommitted_of r.window r.pending ≡ e ∷ us → Accords start (commit_done r).1 p
+    commit_accords e us us_is =
         let j = r.journal in
         let s = shown_at start r in
         let n = length p.boxes in
@@ -280,13 +269,9 @@ module _ (start : HistoryState) (r : Record) (p : PortsState) (h : Accords start
         let first = first_is in
         let shown = shown_after in
         let g = guest_along s.guest ms in
-        let sents : e.frames ∷ frames_by_epoch us ≡ frames_along s.guest ms ∷ epoch_frames g mss =
-        ap frames_by_epoch (sym us_is) ∙ h.frames ∙ ap (epoch_frames s.guest) moves_are in
         let e_sent = first_sends e us us_is in
-        let us_sent : frames_by_epoch us ≡ epoch_frames g mss = cc in
         let next = next_epoch (committed_count r.window) r.pending e us us_is in
-        let one_more : (r.window.to_commit + 1) - r.window.to_acknowledge ≡ suc (committed_count r.window) =
-        let c = k.window.committed in omega arith in
+        let more = next_committed r.window r.pending k.window in
         let guest : g ≡ (at start (j.history ++ first_of j.sealed)).guest = sym (ap (λ t. t.guest) shown) in
         let left_is : left s.waiting (kept_now start r p h) ≡ left (at start (j.history ++ first_of j.sealed)).waiting rest =
         ap (left s.waiting) split_moves ∙ left-append s.waiting ms rest ∙ ap (λ t. left t.waiting rest) (sym shown) in
@@ -303,7 +288,7 @@ module _ (start : HistoryState) (r : Record) (p : PortsState) (h : Accords start
             can = rw shown (AllCan-back s.waiting ms rest can_rest);
           };
           frames =
-              ap frames_by_epoch (ap (λ m. drop m r.pending) one_more ∙ next.1) ∙ us_sent ∙ ap (λ t. epoch_frames t mss) guest;
+              ap frames_by_epoch (ap (λ m. drop m r.pending) more ∙ next.1) ∙ others_send e us us_is ∙ ap (λ t. epoch_frames t mss) guest;
           clients = record {
             number = h.clients.number ∙ sym (ap (λ t. t.number) shown);
             rising = rw shown (AreRising-left 1 p.next s.waiting ms h.clients.rising);
@@ -322,7 +307,7 @@ module _ (start : HistoryState) (r : Record) (p : PortsState) (h : Accords start
               ∙ ap (λ t. targets_of n (frames_of (committed_of r.window r.pending) ++ t)) (sym (append-nil e.frames))
               ∙ ap (targets_of n) (sym (frames_of-append (committed_of r.window r.pending) (e ∷ [])))
               ∙ ap (λ t. targets_of n (frames_of t)) (sym next.0)
-              ∙ ap (λ m. targets_of n (frames_of (take m r.pending))) (sym one_more);
+              ∙ ap (λ m. targets_of n (frames_of (take m r.pending))) (sym more);
         }
 
   -- each checkpoint that was cut and not committed has its epoch
@@ -342,12 +327,6 @@ module _ (start : HistoryState) (r : Record) (p : PortsState) (h : Accords start
           → (e : Epoch) × (us : List Epoch) × (uncommitted_of r.window r.pending ≡ e ∷ us)
       by_list [] is l = absurd (omega arith)
       by_list (e ∷ us) is l = (e, us, is)
-
--- where nothing is pending, the first frame that is held would be the next one
-pub first_lone : (r : Record) → r.pending ≡ [] → first_held r ≡ r.next_frame
-first_lone r none =
-    let a : length (frames_of r.pending) ≡ 0 = ap (λ (es : List Epoch). length (frames_of es)) none in
-    omega arith
 
 -- PORTS whose clients have other numbers
 
@@ -378,6 +357,9 @@ nothing zero i = refl
 nothing (suc n) zero = refl
 nothing (suc n) (suc i) = nothing n i
 
+pub no_numbers : (clients : ℕ) → AreRising 1 (empty_ports clients).next []
+no_numbers clients = omega arith
+
 abbrev pub start_accords : (pages sectors : ℕ) (image : List ℕ) (clients : ℕ)
     → Accords (start_state pages sectors image clients) start_record (empty_ports clients)
 start_accords pages sectors image clients = record {
@@ -385,7 +367,7 @@ start_accords pages sectors image clients = record {
   frames = refl;
   clients = record {
     number = refl;
-    rising = omega arith;
+    rising = no_numbers clients;
     count = length-replicate clients [] ∙ sym (length-replicate clients []);
     inboxes = λ c low high. nothing clients (c - 1);
     boxes = refl;

@@ -1,37 +1,25 @@
 -- Where an epoch is sealed, and where one enters the history with what leaves the gate: it is a beginning of what runs, maybe with steps
 -- behind it, and the rest of what runs goes on.
-use Rattle.std.proofs.Common.{◌≡◌, ℕ, zero, suc, ◌+◌, ◌≤◌, List, [], ◌∷◌, ◌++◌, length, take, drop, refl, sym, ap, ◌∙◌, subst, append_assoc}
-use Rattle.std.proofs.lemmas.List.{append-nil, map-append, drop-append-le, take-append-le}
+use Rattle.std.proofs.Common.{◌≡◌, ℕ, ◌+◌, ◌≤◌, List, [], ◌∷◌, ◌++◌, length, drop, refl, sym, ap, ◌∙◌, subst}
+use Rattle.std.proofs.{Common.append_assoc, lemmas.List.{append-nil, map-append, drop-append-le, take-append-le}, Math.Seq.take-nil}
+use Rattle.std.proofs.Math.Seq.{drop-nil}
 use Rattle.std.specs.Prelude.{map}
-use Rattle.frame_ports.specs.{Addresses.targets_of, Lands.{lands}, Ports.PortsState}
+use Rattle.frame_ports.specs.{Addresses.targets_of, Lands.lands, Ports.PortsState}
 use Rattle.failover.specs.declared.mode.Mode.{Mode}
 use Rattle.output_gate.specs.Epochs.{Epoch, frames_of}
-use Rattle.pair_history.specs.{Entries.{Frame, Entry}, HistoryState.{HistoryState, at, Legal}}
-use Rattle.pair_history.specs.Landings.{landings, DropsAreAskedOrFull, BoxesFit}
-use Rattle.pair_history.specs.Moves.{Move, entry_of, entries_of, guest_along, frames_along, left, AllCan}
-use Rattle.pair_history.specs.laws.Histories.{at-append, Legal-append}
-use Rattle.pair_history.specs.laws.Losses.{AreRising-left}
-use Rattle.pair_history.specs.laws.Moves.{AreGuests-moves}
-use Rattle.pair_history.specs.laws.Drops.{DropsAreAskedOrFull-append, DropsAreAskedOrFull-guests, at_full-asked}
-use Rattle.pair_history.specs.laws.Moves.{moved, at-moves, Legal-moves, AllCan-front, AllCan-back, left-append}
-use Rattle.frame_ports.specs.laws.Lands.{length-lands}
-use Rattle.pair_history.specs.laws.Landings.{BoxesFit-lands, AllClients-targets, landings-land, AllLand}
+use Rattle.pair_history.specs.{Entries.{Frame, Entry}, HistoryState.{HistoryState, at, Legal}, Landings.{landings, DropsAreAskedOrFull}}
+use Rattle.pair_history.specs.{Landings.BoxesFit, Moves.{Move, entry_of, entries_of, guest_along, frames_along, left, AllCan}}
 use Rattle.pair_history.specs.Reached.{AllClients}
-use Rattle.pair_record.specs.declared.window.Window.{Window}
+use Rattle.pair_history.specs.laws.{Histories.{at-append, Legal-append}, Losses.AreRising-left, Moves.{AreGuests-moves, moved, at-moves}}
+use Rattle.pair_history.specs.laws.{Moves.{Legal-moves, AllCan-front, AllCan-back, left-append}, Drops.DropsAreAskedOrFull-append}
+use Rattle.pair_history.specs.laws.{Drops.{DropsAreAskedOrFull-guests, at_full-asked}, Landings.{BoxesFit-lands, AllClients-targets}}
+use Rattle.pair_history.specs.laws.Landings.{landings-land, AllLand}
+use Rattle.frame_ports.specs.laws.Lands.{length-lands}
+use Rattle.pair_record.specs.{declared.window.Window.Window, Record.ports_after_all, Accords.{all_moves, epoch_frames, frames_by_epoch}}
+use Rattle.pair_record.specs.{Accords.{AreInboxes, AreClients, Accords, sealed_now, left_now}, Protocol.{Record, shown_at, all_held}}
+use Rattle.pair_record.specs.{Protocol.{seal_done, landed_after}, Window.committed_count}
 use Rattle.pair_journal.specs.Journal.{joined}
-use Rattle.pair_record.specs.Record.{ports_after_all}
-use Rattle.pair_record.specs.internal.Accords.{all_moves, epoch_frames, frames_by_epoch, AreInboxes, AreClients, Accords}
-use Rattle.pair_record.specs.Protocol.{Record, shown_at, all_held, seal_done, landed_after}
-use Rattle.pair_record.specs.Window.{committed_count}
-use Rattle.pair_record.proofs.AccordLaws.{sealed_now, left_now, sealed_entries, owed_with, all_moves-push, epoch_frames-push}
-
-pub take-none : {A : Type 0} (n : ℕ) → take {A = A} n [] ≡ []
-take-none zero = refl
-take-none (suc n) = refl
-
-pub drop-none : {A : Type 0} (n : ℕ) → drop {A = A} n [] ≡ []
-drop-none zero = refl
-drop-none (suc n) = refl
+use Rattle.pair_record.specs.laws.Accords.{sealed_entries, owed_with, all_moves-push, epoch_frames-push}
 
 module _ (start : HistoryState) (r : Record) (p : PortsState) (h : Accords start r p) (epoch held : List Move) (es rest : List Entry)
     (es_are : es ≡ entries_of epoch)
@@ -171,9 +159,9 @@ module _ (start : HistoryState) (r : Record) (p : PortsState) (h : Accords start
             running_are = rest_are;
             can = rw shown goes_on;
           };
-          frames = ap frames_by_epoch (drop-none (committed_count window));
+          frames = ap frames_by_epoch (drop-nil (committed_count window));
           clients = rw shown clients;
           owed =
               ap (λ (t : HistoryState). t.out) shown
-              ∙ ap (λ (es : List Epoch). targets_of (length (lands b leaving)) (frames_of es)) (sym (take-none (committed_count window)));
+              ∙ ap (λ (es : List Epoch). targets_of (length (lands b leaving)) (frames_of es)) (sym (take-nil (committed_count window)));
         }

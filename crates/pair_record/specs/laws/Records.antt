@@ -1,36 +1,20 @@
--- Each event leaves what is true of every record, and what the tables of refusals say.
-use Rattle.std.proofs.Common.{rules, ◌≡◌, ℕ, suc, ◌+◌, ◌<◌, ◌≤◌, List, [], ◌∷◌, length, get_or, refl, ap, ◌∙◌, arith, Bool}
-use Rattle.std.proofs.{Common.{true, false, cond, Option, None, Some, subst, sym}, lemmas.Bool.eq-eqb, lemmas.Bool.Decides.nat_tests}
-use Rattle.std.proofs.lemmas.List.{length-append}
-use Rattle.std.specs.Prelude.{◌==◌, not}
-use Rattle.failover.specs.{declared.mode.Mode.Mode, declared.mode.Mode.TheVariants.{Paired, Filling, Alone, Stopped}}
+-- Each event leaves what is true of every record.
+use Rattle.std.proofs.Common.{rules, ◌≡◌, ℕ, suc, ◌<◌, ◌≤◌, List, [], ◌∷◌, length, get_or, refl, ap, ◌∙◌, arith, true, false}
+use Rattle.std.proofs.{Common.{None, subst, sym}, lemmas.Bool.{leb-false}}
+use Rattle.std.proofs.lemmas.List.{length-append, nil_from_length}
+use Rattle.failover.specs.{declared.mode.Mode.Mode, declared.mode.Mode.TheVariants.{Paired, Filling, Alone, Stopped}, Modes.is_filling}
+use Rattle.failover.specs.Modes.{mode_filled}
 use Rattle.frame_ports.specs.Limits.{number_limit}
 use Rattle.output_gate.specs.Epochs.{Epoch, after_number}
 use Rattle.pair_history.specs.Entries.{Frame, Entry}
-use Rattle.pair_record.specs.{declared.event.Packet.Packet, declared.event.Refusal.TheVariants.Exhausted, declared.window.Window.Window}
-use Rattle.pair_journal.specs.Journal.{all_entries, rest_of, with_history}
-use Rattle.pair_record.specs.Protocol.{landed_after}
-use Rattle.pair_record.specs.Protocol.{commit_done, ack_done, Record, first_refusal, cut_refusals, ack_refusals, let_go, exhausts, cut_done}
-use Rattle.pair_record.specs.{Record.{IsRecord, IsLone, SuitsMode}, Modes.{is_alone}}
-use Rattle.pair_record.specs.{Protocol.seal_done, Limits.most_pending, Window.{with_commit, with_acknowledged}}
-use Rattle.pair_record.proofs.{ModeLaws.{clash, filled_alone}}
-use Rattle.pair_record.proofs.WindowLaws.{numbered_below, cut_window, commit_window, ack_window, is_below}
-use Rattle.failover.specs.Modes.{is_filling, mode_filled}
-
--- Tables of refusals
-
--- no row applies: the first doesn't, nor do the others
-pub passed : {A : Type 0} (t : Bool) (x : A) (o : Option A) → cond t (Some x) o ≡ None → (t ≡ false) × (o ≡ None)
-passed true x o e = absurd (cc)
-passed false x o e = (refl, e)
-
-pub has_room_for : (r : Record) (more : ℕ) → exhausts r more ≡ false → length (all_entries r.journal) + more < number_limit
-has_room_for r more e = is_below number_limit (length (all_entries r.journal) + more) e
-
--- an acknowledgement of this generation
-pub ack_row : (boxes : List (List Frame)) (r : Record) (p : Packet) → p.generation ≡ r.generation
-    → first_refusal (ack_refusals boxes r p) ≡ cond (exhausts r (length (let_go boxes r p.number))) (Some Exhausted) None
-ack_row boxes r p same = search (arith, rules, eq-eqb)
+use Rattle.pair_record.specs.{declared.window.Window.Window}
+use Rattle.pair_record.specs.Protocol.{landed_after, commit_done, ack_done, Record, first_refusal, cut_refusals}
+use Rattle.pair_record.specs.Protocol.{cut_done, seal_done, begin_done, full_done, protect_done, failure_done}
+use Rattle.pair_record.specs.{Record.{IsRecord, IsLone, SuitsMode}, Modes.is_alone, Limits.{most_pending, first_frame}}
+use Rattle.pair_record.specs.{Window.{with_commit, with_acknowledged}, FailureActs.live_done}
+use Rattle.pair_journal.specs.Journal.{rest_of, with_history}
+use Rattle.pair_record.specs.laws.{Modes.{clash, filled_alone}, Windows.{numbered_below, cut_window, commit_window, ack_window}}
+use Rattle.pair_record.specs.laws.Tables.{passed}
 
 -- The window that suits a mode: after a cut or an acknowledgement, after a commit, and once the primary stops
 
@@ -74,7 +58,7 @@ module _ (r : Record) (h : IsRecord r) where
   sealed_record epoch rest fs two free =
       let row = passed _ _ _ free in
       let next = passed _ _ _ row.1 in
-      seal_record epoch rest fs two (is_below most_pending (length r.pending) row.0) (is_below number_limit r.window.to_cut next.0)
+      seal_record epoch rest fs two (leb-false most_pending (length r.pending) row.0) (leb-false number_limit r.window.to_cut next.0)
 
   pub cut_record : (fs : List Frame) → is_alone r.mode ≡ false → first_refusal (cut_refusals r) ≡ None → IsRecord (cut_done fs r).1
   cut_record fs = sealed_record r.journal.running [] fs
@@ -110,10 +94,35 @@ module _ (r : Record) (h : IsRecord r) where
   pub some_committed : is_alone r.mode ≡ false → is_filling r.mode ≡ false → 1 ≤ r.window.to_commit
   some_committed two full = suits_full r.mode r.window two full h.suits
 
+  pub failure_record : (epoch rest : List Entry) (boxes : List (List Frame)) (frames : List Frame)
+      → IsRecord (failure_done epoch rest boxes frames r).1
+  failure_record epoch rest boxes frames = search (arith, rules)
+
+pub live_record : (r : Record) → IsRecord r → (landed : List Entry) (steps : ℕ) → IsRecord (live_done landed steps r).1
+live_record r h landed steps = search (arith, rules)
+
+-- A NEW BACKUP: its full checkpoint, number 0, is all that is pending, and all that is sealed is an empty epoch
+
+module _ (r : Record) (h : IsRecord r) (alone : is_alone r.mode ≡ true) where
+  pub protect_record : IsRecord (protect_done r).1
+  protect_record = search (arith, rules, length-append)
+
+  pub begin_record : IsRecord (begin_done r).1
+  begin_record = search (arith, rules)
+
+-- where it was begun, and none is pending yet
+module _ (r : Record) (h : IsRecord r) (filling : is_filling r.mode ≡ true) (none : r.window.to_cut ≡ 0) where
+  pub none_yet : r.pending ≡ []
+  none_yet = nil_from_length r.pending (let c = h.window.count in omega arith)
+
+  pub full_record : IsRecord (full_done r).1
+  full_record =
+      let c = h.window.count in
+      let anew : IsRecord (record r { next_frame = first_frame }) =
+      record { window = h.window; sealed = h.sealed; alone = h.alone; suits = h.suits } in
+      seal_record (record r { next_frame = first_frame }) anew [] r.journal.running [] (filling_not_alone r.mode filling) (omega arith)
+      (omega arith)
+
 -- what is the same record is one too
 pub same_record : (r q : Record) → q ≡ r → IsRecord r → IsRecord q
 same_record r q e h = subst IsRecord (sym e) h
-
--- a packet of the current generation
-pub generation_is : (a b : ℕ) → not (a == b) ≡ false → a ≡ b
-generation_is a b e = grind (arith, nat_tests)

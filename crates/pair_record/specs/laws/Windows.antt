@@ -1,13 +1,14 @@
 -- Laws of the window of checkpoints.
-use Rattle.std.proofs.Common.{◌≡◌, ℕ, zero, suc, ◌+◌, ◌<◌, ◌≤◌, List, [], ◌∷◌, ◌++◌, length, take, drop, get_or, refl, sym, ap, ◌∙◌, subst}
-use Rattle.std.proofs.{Common.{arith, Bool, true, false, cond}, lemmas.Bool.Decides.nat_tests}
-use Rattle.std.proofs.{lemmas.List.{length-append, length-take-le, take-append-drop}, Math.Seq.{take-append_seam, drop-append_seam}}
+use Rattle.std.proofs.Common.{◌≡◌, ℕ, zero, suc, ◌+◌, ◌-◌, ◌<◌, ◌≤◌, List, [], ◌∷◌, ◌++◌, length, take, drop, get_or, refl, sym, ap, ◌∙◌}
+use Rattle.std.proofs.{Common.{subst, arith, Bool, true, false, cond, append_assoc, rules}}
+use Rattle.std.proofs.{lemmas.List.{length-append, length-take-le, take-append-drop, append-nil}, Math.Seq.take-append_seam}
+use Rattle.std.proofs.{Math.Seq.drop-append_seam, lemmas.Bool.{leb-false, leb-true, lt-leb, le-leb}}
 use Rattle.std.specs.Prelude.{nat_le}
 use Rattle.frame_ports.specs.Limits.{number_limit}
 use Rattle.output_gate.specs.Epochs.{Epoch, frames_to, after_number, frames_of}
-use Rattle.pair_record.specs.declared.window.Window.{Window}
-use Rattle.pair_record.specs.Window.{NumberedFrom, IsWindow, with_cut, with_commit, with_acknowledged, first_after, committed_count}
-use Rattle.pair_record.specs.Window.{committed_of, uncommitted_of}
+use Rattle.pair_history.specs.Entries.{Frame}
+use Rattle.pair_record.specs.{declared.window.Window.Window, Window.{NumberedFrom, IsWindow, with_cut, with_commit, with_acknowledged}}
+use Rattle.pair_record.specs.Window.{first_after, committed_count, committed_of, uncommitted_of}
 
 pub NumberedFrom-push : (n : ℕ) (es : List Epoch) (e : Epoch) → NumberedFrom n es → e.number ≡ n + length es → NumberedFrom n (es ++ e ∷ [])
 NumberedFrom-push n [] e h k = (omega arith, tt)
@@ -29,17 +30,11 @@ pub record Taken (n a : ℕ) (waiting others : List Epoch) : Type 0 where
   pub count : cond (nat_le a n) (n + 1) a + length stay ≡ a + length waiting
   pub numbers : NumberedFrom (cond (nat_le a n) (n + 1) a) (stay ++ others)
 
-pub test_below : (a n : ℕ) → n < a → nat_le a n ≡ false
-test_below a n h = grind (arith, nat_tests)
-
-pub test_from : (a n : ℕ) → a ≤ n → nat_le a n ≡ true
-test_from a n h = grind (arith, nat_tests)
-
 -- none is taken where n comes before the first
 none_taken : (n a : ℕ) (es : List Epoch) → n < a → NumberedFrom a es → (frames_to n es ≡ []) × (after_number n es ≡ es)
 none_taken n a [] l h = (refl, refl)
 none_taken n a (e ∷ es) l h =
-    let off : nat_le e.number n ≡ false = ap (λ k. nat_le k n) h.0 ∙ test_below a n l in
+    let off : nat_le e.number n ≡ false = ap (λ k. nat_le k n) h.0 ∙ lt-leb a n l in
     let later = none_taken n (a + 1) es (omega arith) h.1 in (
       ap (λ t. cond t (e.frames ++ frames_to n es) (frames_to n es)) off ∙ later.0,
       ap (λ t. cond t (after_number n es) (e ∷ after_number n es)) off ∙ ap (λ t. e ∷ t) later.1,
@@ -47,7 +42,7 @@ none_taken n a (e ∷ es) l h =
 
 none : (n a : ℕ) (waiting others : List Epoch) → n < a → NumberedFrom a (waiting ++ others) → Taken n a waiting others
 none n a waiting others l h =
-    let off = test_below a n l in
+    let off = lt-leb a n l in
     record {
       gone = [];
       stay = waiting;
@@ -58,25 +53,19 @@ none n a waiting others l h =
       numbers = rw (ap (λ t. cond t (n + 1) a) off) h;
     }
 
-pub is_from : (a n : ℕ) → nat_le a n ≡ true → a ≤ n
-is_from a n h = grind (arith, nat_tests)
-
-pub is_below : (a n : ℕ) → nat_le a n ≡ false → n < a
-is_below a n h = grind (arith, nat_tests)
-
 next_start : (a n : ℕ) → a ≤ n → cond (nat_le (a + 1) n) (n + 1) (a + 1) ≡ n + 1
 next_start a n h = by_test (nat_le (a + 1) n) refl
   where
     by_test : (t : Bool) → nat_le (a + 1) n ≡ t → cond t (n + 1) (a + 1) ≡ n + 1
     by_test true e = refl
-    by_test false e = let l : n < a + 1 = is_below (a + 1) n e in omega arith
+    by_test false e = let l : n < a + 1 = leb-false (a + 1) n e in omega arith
 
 -- the first is taken, and then what comes behind it
 one_more : (n a : ℕ) (e : Epoch) (waiting others : List Epoch) → a ≤ n → NumberedFrom a (e ∷ (waiting ++ others))
     → Taken n (a + 1) waiting others → Taken n a (e ∷ waiting) others
 one_more n a e waiting others l h m =
-    let on : nat_le e.number n ≡ true = ap (λ k. nat_le k n) h.0 ∙ test_from a n l in
-    let here : cond (nat_le a n) (n + 1) a ≡ n + 1 = ap (λ t. cond t (n + 1) a) (test_from a n l) in
+    let on : nat_le e.number n ≡ true = ap (λ k. nat_le k n) h.0 ∙ le-leb a n l in
+    let here : cond (nat_le a n) (n + 1) a ≡ n + 1 = ap (λ t. cond t (n + 1) a) (le-leb a n l) in
     let there = next_start a n l in
     record {
       gone = e ∷ m.gone;
@@ -96,14 +85,28 @@ taken n a (e ∷ waiting) others l h =
   where
     by_test : (n a : ℕ) (e : Epoch) (waiting others : List Epoch) → NumberedFrom a (e ∷ (waiting ++ others)) → (t : Bool) → nat_le a n ≡ t
         → (a ≤ n → Taken n (a + 1) waiting others) → Taken n a (e ∷ waiting) others
-    by_test n a e waiting others h true i more = one_more n a e waiting others (is_from a n i) h (more (is_from a n i))
-    by_test n a e waiting others h false i more = none n a (e ∷ waiting) others (is_below a n i) h
+    by_test n a e waiting others h true i more = one_more n a e waiting others (leb-true a n i) h (more (leb-true a n i))
+    by_test n a e waiting others h false i more = none n a (e ∷ waiting) others (leb-false a n i) h
+
+-- the frames of all epochs, where none has a number above n
+pub frames_to-all : (n m : ℕ) (es : List Epoch) → NumberedFrom m es → m + length es ≤ n + 1 → frames_to n es ≡ frames_of es
+frames_to-all n m [] h l = refl
+frames_to-all n m (e ∷ es) h l = search (arith, rules, le-leb, frames_to-all n (m + 1) es h.1 (omega arith))
+
+pub frames_of-push : (es : List Epoch) (e : Epoch) → frames_of (es ++ e ∷ []) ≡ frames_of es ++ e.frames
+frames_of-push [] e = append-nil e.frames
+frames_of-push (x ∷ es) e =
+    ap (λ (t : List Frame). x.frames ++ t) (frames_of-push es e) ∙ sym (append_assoc x.frames (frames_of es) e.frames)
 
 -- The window after each event that moves it.
 
 module _ (w : Window) (pending : List Epoch) (h : IsWindow w pending) where
   pub within : committed_count w ≤ length pending
   within = let a = h.count in let b = h.cut in let c = h.committed in omega arith
+
+  -- one more is committed
+  pub next_committed : (w.to_commit + 1) - w.to_acknowledge ≡ suc (committed_count w)
+  next_committed = let c = h.committed in omega arith
 
   pub cut_window : (e : Epoch) → e.number ≡ w.to_cut → length pending < 4 → w.to_cut < number_limit
       → IsWindow (with_cut w) (pending ++ e ∷ [])

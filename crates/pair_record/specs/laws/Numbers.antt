@@ -1,27 +1,22 @@
 -- The numbers of frames: no frame that the gate holds, or will hold, has come for a client yet, whatever happens.
-use Rattle.std.proofs.Common.{◌≡◌, ℕ, zero, suc, ◌+◌, ◌-◌, ◌<◌, ◌≤◌, List, [], ◌∷◌}
-use Rattle.std.proofs.Common.{◌++◌, length, take, replicate, get_or, set, refl, sym, ap, ◌∙◌, inl, inr}
-use Rattle.std.proofs.{Common.{arith, Bool, true, false, cond, Option, None, Some, subst}, lemmas.Bool.Decides.nat_tests}
-use Rattle.std.proofs.lemmas.{Bool.{ltb-true, ltb-false, cases_lt}, List.{length-append, length-take, take-append-drop}}
-use Rattle.std.proofs.lemmas.List.Elements.{All-set}
+use Rattle.std.proofs.Common.{◌≡◌, ℕ, zero, suc, ◌+◌, ◌-◌, ◌<◌, ◌≤◌, List, [], ◌∷◌, ◌++◌, length, take, replicate, get_or, set, refl, sym}
+use Rattle.std.proofs.Common.{ap, ◌∙◌, inl, inr, arith, Bool, true, false, cond, Option, None, Some, subst}
+use Rattle.std.proofs.{lemmas.Bool.Decides.nat_tests, lemmas.Bool.{ltb-true, ltb-false, cases_lt}, lemmas.List.length-append}
+use Rattle.std.proofs.{lemmas.List.{length-take, take-append-drop}, lemmas.List.Elements.All-set}
 use Rattle.std.specs.Prelude.{All, nat_le, nat_lt, slice_index_or}
 use Rattle.frame_ports.specs.{Lands.{landed_at, put_count}, Numbers.{is_new, after_landing, renumbered}, Ports.PortsState}
 use Rattle.frame_ports.specs.{Addresses.targets_of, Limits.number_limit}
-use Rattle.output_gate.specs.Epochs.{Epoch, epoch as epoch_of, frames_of, frames_to, after_number}
-use Rattle.output_gate.specs.Landings.{clients_for, landed_for, ports_after, landed_count, AreBelow}
-use Rattle.output_gate.specs.Gate.{GateState, first_held as gate_first}
-use Rattle.output_gate.specs.laws.New.{boxes-after, landed_count-new}
-use Rattle.output_gate.specs.laws.Ports.{rest_same-after}
+use Rattle.output_gate.specs.{Epochs.{Epoch, epoch as epoch_of, frames_of, frames_to, after_number}, Landings.{clients_for, landed_for}}
+use Rattle.output_gate.specs.{Landings.{ports_after, landed_count, AreBelow}, Gate.{GateState, first_held as gate_first}}
+use Rattle.output_gate.specs.laws.{New.{boxes-after, landed_count-new}, Ports.rest_same-after, Epochs.frames_of-append}
 use Rattle.pair_history.specs.Entries.{Frame, Entry}
-use Rattle.pair_record.specs.{declared.event.Refusal.Refusal, declared.event.Refusal.TheVariants.{Behind, Exhausted}}
+use Rattle.pair_record.specs.{declared.event.Refusal.Refusal, declared.event.Refusal.TheVariants.{Behind, Exhausted}, Limits.last_frame}
+use Rattle.pair_record.specs.{Limits.most_pending, Window.{committed_of, uncommitted_of, committed_count}, FailureActs.first_uncommitted}
+use Rattle.pair_record.specs.{FailureActs.live_done, Protocol.{Record, first_refusal, cut_refusals, frames_run_out, seal_done}}
+use Rattle.pair_record.specs.{Protocol.{commit_done, ack_done, failure_done, begin_done, full_done, protect_done}, Record.AreNumbered}
+use Rattle.pair_record.specs.Record.{first_held, ports_landed, ports_after_ack, ports_after_all}
 use Rattle.pair_journal.specs.Journal.{Journal}
-use Rattle.pair_record.specs.Limits.{last_frame, most_pending}
-use Rattle.pair_record.specs.Window.{committed_of, uncommitted_of, committed_count}
-use Rattle.pair_record.specs.{FailureActs.{first_uncommitted, live_done}, Protocol.{Record, first_refusal, cut_refusals, frames_run_out}}
-use Rattle.pair_record.specs.Protocol.{seal_done, commit_done, ack_done, failure_done, begin_done, full_done, protect_done}
-use Rattle.pair_record.specs.Record.{AreNumbered, first_held, ports_landed, ports_after_ack, ports_after_all}
-use Rattle.pair_record.proofs.{AccordLaws.{frames_of-append, first_lone}, AloneLaws.frames_of-push}
-use Rattle.pair_record.proofs.{ModeLaws.filled_alone, RecordLaws.passed}
+use Rattle.pair_record.specs.laws.{Windows.frames_of-push, Modes.filled_alone, Tables.passed}
 
 -- NUMBERS BELOW a limit
 
@@ -115,6 +110,12 @@ in_two r =
     let others = uncommitted_of r.window r.pending in
     ap (λ (es : List Epoch). length (frames_of es)) (sym (take-append-drop (committed_count r.window) r.pending))
     ∙ ap (λ (fs : List Frame). length fs) (frames_of-append owed others) ∙ length-append (frames_of owed) (frames_of others)
+
+-- where nothing is pending, the first frame that is held would be the next one
+pub first_lone : (r : Record) → r.pending ≡ [] → first_held r ≡ r.next_frame
+first_lone r none =
+    let a : length (frames_of r.pending) ≡ 0 = ap (λ (es : List Epoch). length (frames_of es)) none in
+    omega arith
 
 -- EACH EVENT keeps what is true of the numbers
 

@@ -22,15 +22,18 @@ use Rattle.pair_history.specs.laws.Landings.{BoxesFit-set, BoxesFit-at, BoxesFit
 use Rattle.pair_history.specs.Leaving.{LeaveInOrder}
 use Rattle.pair_history.specs.laws.Landings.{AllLand}
 use Rattle.pair_history.specs.Reached.{AllClients}
-use Rattle.pair_history.proofs.LeavingLaws.{landings-leave}
+use Rattle.pair_history.specs.laws.Leaving.{landings-leave}
 use Rattle.pair_record.specs.declared.window.Window.{Window}
 use Rattle.pair_journal.specs.Journal.{with_history}
-use Rattle.pair_record.specs.internal.Accords.{epoch_frames, frames_by_epoch, AreClients, Accords}
+use Rattle.pair_record.specs.Accords.{epoch_frames, frames_by_epoch, AreClients, Accords}
 use Rattle.pair_record.specs.Protocol.{Record, shown_at, ack_done, deliver_done, take_done, loss_done, let_go}
 use Rattle.pair_record.specs.Record.{IsRecord, ports_after_ack, ports_after_take, ports_after_lose_in, ports_after_lose_out}
 use Rattle.pair_record.specs.Window.{committed_of, uncommitted_of}
-use Rattle.pair_record.proofs.AccordLaws.{frames_of-append, kept_now, left_now, AreInboxes-with, apart}
-use Rattle.pair_record.proofs.WindowLaws.{leaves, gone, committed_left, uncommitted_left}
+use Rattle.output_gate.specs.laws.Epochs.{frames_of-append}
+use Rattle.pair_record.specs.Accords.{kept_now, left_now}
+use Rattle.pair_record.specs.laws.Accords.{AreInboxes-with}
+use Rattle.std.proofs.lemmas.Bool.{ne_eqb}
+use Rattle.pair_record.specs.laws.Windows.{leaves, gone, committed_left, uncommitted_left}
 
 -- A CLIENT'S EVENT goes into the history, before what is kept: the guest stays as it is
 
@@ -66,6 +69,16 @@ module _ (start : HistoryState) (r : Record) (p : PortsState) (h : Accords start
         clients = rw shown at clients;
         owed = ap (λ t. t.out) (sym shown) ∙ owed;
       }
+
+-- the first frame of a client's box may be taken, and then the box still fits
+pub took : (s : HistoryState) (c : ℕ) (box : List Frame) → list_of s.boxes c ≡ box → 1 ≤ c → c ≤ length s.boxes
+    → Allows s (Took c (slice_get box 0))
+took s c [] e l k = ((l, k), e)
+took s c (f ∷ fs) e l k = ((l, k), ap (λ b. slice_get b 0) e)
+
+pub shorter : (xs : List Frame) → length xs ≤ box_frames → length (drop 1 xs) ≤ box_frames
+shorter [] l = l
+shorter (x ∷ xs) l = omega arith
 
 module _ (start : HistoryState) (r : Record) (p : PortsState) (h : Accords start r p) where
   -- a client of the ports is one of the history's
@@ -141,7 +154,7 @@ module _ (start : HistoryState) (r : Record) (p : PortsState) (h : Accords start
         let b = p.boxes in
         let box = list_of b c in
         let entry = Took c (slice_get box 0) in
-        let allowed : Allows s entry = rw h.clients.boxes (answer s c (list_of s.boxes c) refl low (high_there c high)) in
+        let allowed : Allows s entry = rw h.clients.boxes (took s c (list_of s.boxes c) refl low (high_there c high)) in
         let long : length (with_list b c (drop 1 box)) ≡ length b = length-set b (c - 1) (drop 1 box) in
         let now : HistoryState = record s { boxes = with_list b c (drop 1 box) } in
         history_accords start r p h (entry ∷ []) now
@@ -157,15 +170,6 @@ module _ (start : HistoryState) (r : Record) (p : PortsState) (h : Accords start
         })
         r.window r.pending refl
         (h.owed ∙ ap (λ (x : ℕ). targets_of x (frames_of (committed_of r.window r.pending))) (sym long))
-      where
-        answer : (s : HistoryState) (c : ℕ) (box : List Frame) → list_of s.boxes c ≡ box → 1 ≤ c → c ≤ length s.boxes
-            → Allows s (Took c (slice_get box 0))
-        answer s c [] e l k = ((l, k), e)
-        answer s c (f ∷ fs) e l k = ((l, k), ap (λ b. slice_get b 0) e)
-
-        shorter : (xs : List Frame) → length xs ≤ box_frames → length (drop 1 xs) ≤ box_frames
-        shorter [] l = l
-        shorter (x ∷ xs) l = omega arith
 
     -- LoseIn: a frame that still waits after what is kept leaves before it
     abbrev pub lose_in_accords : (place n : ℕ) (f : Frame) → slice_get (list_of p.inboxes c) place ≡ Some (n, f)
@@ -190,12 +194,31 @@ module _ (start : HistoryState) (r : Record) (p : PortsState) (h : Accords start
           inboxes =
               rw before.2 (AreInboxes-with (length p.boxes) c p.inboxes fewer ws (without_number n ws) low high h.clients.count
               h.clients.inboxes (ap (λ t. remove t place) mine ∙ sym (leaves.1 c ∙ ap (λ t. cond t (remove (inbox_of c ws) place) (inbox_of
-              c ws)) same)) (λ d other. sym (leaves.1 d ∙ ap (λ t. cond t (remove (inbox_of c ws) place) (inbox_of d ws)) (apart d c
+              c ws)) same)) (λ d other. sym (leaves.1 d ∙ ap (λ t. cond t (remove (inbox_of c ws) place) (inbox_of d ws)) (ne_eqb d c
               other))));
           boxes = h.clients.boxes;
           fit = h.clients.fit;
         })
         r.window r.pending refl h.owed
+
+    pub is_boxed : (place : ℕ) → place < length (list_of p.boxes c) → place < length (list_of (shown_at start r).boxes c)
+    is_boxed place there = rw (← h.clients.boxes) there
+
+    pub may_drop : (place : ℕ) → place < length (list_of p.boxes c) → Allows (shown_at start r) (DropOut c place)
+    may_drop place there = let boxed = is_boxed place there in ((low, high_there c high), omega arith)
+
+    pub fewer_fit : (place : ℕ) → place < length (list_of p.boxes c) → length (remove (list_of p.boxes c) place) ≤ box_frames
+    fewer_fit place there =
+        let k = length-remove (list_of p.boxes c) place there in
+        let l = BoxesFit-at p.boxes (c - 1) h.clients.fit in
+        omega arith
+
+    pub many_wait : inbox_frames ≤ length (list_of p.inboxes c) → inbox_frames ≤ length (inbox_of c (shown_at start r).waiting)
+    many_wait full =
+        let s = shown_at start r in
+        let mine = ap length (h.clients.inboxes c low high) in
+        let fewer = left-shorter c s.waiting (kept_now start r p h) in
+        omega arith
 
     -- LoseOut: a frame leaves the box
     abbrev pub lose_out_accords : (place : ℕ) → place < length (list_of p.boxes c)
@@ -206,7 +229,7 @@ module _ (start : HistoryState) (r : Record) (p : PortsState) (h : Accords start
         let box = list_of b c in
         let fewer = remove box place in
         let same : s.boxes ≡ b = sym h.clients.boxes in
-        let boxed : place < length (list_of s.boxes c) = rw (← h.clients.boxes) there in
+        let boxed = is_boxed place there in
         let test : nat_lt place (length (list_of s.boxes c)) ≡ true = lt-ltb place (length (list_of s.boxes c)) boxed in
         let long : length (with_list b c fewer) ≡ length b = length-set b (c - 1) fewer in
         let now : HistoryState = record s { boxes = with_list b c fewer } in
@@ -215,16 +238,14 @@ module _ (start : HistoryState) (r : Record) (p : PortsState) (h : Accords start
         history_accords start r p h (DropOut c place ∷ []) now
         (ap (λ (t : Bool). record s { out = cond t s.out without; boxes = cond t others s.boxes }) test
         ∙ (λ i. record s { boxes = with_list (same i) c (remove (list_of (same i) c) place) }))
-        refl (((low, high_there c high), omega arith), tt) (inl boxed, tt) h.journal.can (ports_after_lose_out p c place)
+        refl (may_drop place there, tt) (inl boxed, tt) h.journal.can (ports_after_lose_out p c place)
         (record {
           number = h.clients.number;
           rising = h.clients.rising;
           count = h.clients.count ∙ sym long;
           inboxes = rw long h.clients.inboxes;
           boxes = refl;
-          fit =
-              BoxesFit-set b (c - 1) fewer h.clients.fit
-              (let k = length-remove box place there in let l = BoxesFit-at b (c - 1) h.clients.fit in omega arith);
+          fit = BoxesFit-set b (c - 1) fewer h.clients.fit (fewer_fit place there);
         })
         r.window r.pending refl
         (h.owed ∙ ap (λ (x : ℕ). targets_of x (frames_of (committed_of r.window r.pending))) (sym long))
@@ -260,7 +281,7 @@ module _ (start : HistoryState) (r : Record) (p : PortsState) (h : Accords start
                 ∙ sym (inbox_of-append c ws (x ∷ [])))
                 (λ d other.
                 sym (append-nil (inbox_of d ws))
-                ∙ ap (λ (t : Bool). inbox_of d ws ++ cond t ((p.next, f) ∷ []) []) (sym (apart c d (λ (e : c ≡ d). other (sym e))))
+                ∙ ap (λ (t : Bool). inbox_of d ws ++ cond t ((p.next, f) ∷ []) []) (sym (ne_eqb c d (λ (e : c ≡ d). other (sym e))))
                 ∙ sym (inbox_of-append d ws (x ∷ []))));
             boxes = h.clients.boxes;
             fit = h.clients.fit;
@@ -272,10 +293,7 @@ module _ (start : HistoryState) (r : Record) (p : PortsState) (h : Accords start
           → Accords start (record r { journal = with_history r.journal (Refused c the_frame ∷ []) }) p
       full_accords full =
           let s = shown_at start r in
-          let mine = ap length (h.clients.inboxes c low high) in
-          let fewer = left-shorter c s.waiting (kept_now start r p h) in
-          let many : inbox_frames ≤ length (inbox_of c s.waiting) = omega arith in
           history_accords start r p h (Refused c the_frame ∷ []) s refl refl
-          (((low, high_there c high), frame, many), tt) tt h.journal.can p
+          (((low, high_there c high), frame, many_wait full), tt) tt h.journal.can p
           h.clients
           r.window r.pending refl h.owed

@@ -1,38 +1,40 @@
--- Laws of what clients deliver and lose: a frame's length, and what stands at a place.
-use Rattle.std.proofs.Common.{◌≡◌, ℕ, zero, suc, ◌<◌, ◌≤◌, List, [], ◌∷◌, length, refl, ap, arith, Bool, true, false, Option, None, Some}
-use Rattle.std.proofs.lemmas.Bool.Decides.{nat_tests}
-use Rattle.std.specs.Prelude.{slice_get, option_map, not, nat_le}
+-- What a table of refusals says where it refuses nothing, and where a loss or a full inbox is told.
+use Rattle.std.proofs.Common.{◌≡◌, ℕ, ◌<◌, ◌≤◌, List, [], ◌∷◌, length, refl, ap, arith, Bool, true, false, Option, None, Some}
+use Rattle.std.proofs.{Common.{rules, ◌+◌, cond}, lemmas.Bool.Decides.nat_tests, lemmas.Bool.{leb-true, eq-eqb}}
+use Rattle.std.proofs.{lemmas.Bool.leb-false, lemmas.Option.slice_get_within}
+use Rattle.std.specs.Prelude.{slice_get, option_map, not, nat_le, ◌==◌}
 use Rattle.frame_ports.specs.{Addresses.IsFrame, Limits.{inbox_frames, number_limit}}
 use Rattle.pair_history.specs.Entries.{Frame, Entry, DropIn, DropOut}
-use Rattle.pair_record.specs.declared.event.Refusal.TheVariants.{Full, BadFrame, NoClient, Exhausted}
-use Rattle.pair_record.specs.Protocol.{Record, Outcome, Row, first_refusal, exhausts, is_among, is_bad_length, deliver_refusals}
-use Rattle.pair_record.specs.Protocol.{take_refusals, loss_refusals, loss_of, loss_done, loss_reply, lost_in, lost_out}
-use Rattle.pair_record.proofs.{RecordLaws.passed, WindowLaws.is_from}
+use Rattle.pair_record.specs.{declared.event.Refusal.TheVariants.{Full, BadFrame, NoClient, Exhausted}, Protocol.{Record, Outcome, Row}}
+use Rattle.pair_record.specs.Protocol.{first_refusal, exhausts, is_among, is_bad_length, deliver_refusals, take_refusals, loss_refusals}
+use Rattle.pair_record.specs.Protocol.{loss_of, loss_done, loss_reply, lost_in, lost_out}
+use Rattle.pair_record.specs.{Protocol.{ack_refusals, let_go}, declared.event.Packet.Packet}
+use Rattle.pair_journal.specs.Journal.{all_entries}
+
+-- no row applies: the first doesn't, nor do the others
+pub passed : {A : Type 0} (t : Bool) (x : A) (o : Option A) → cond t (Some x) o ≡ None → (t ≡ false) × (o ≡ None)
+passed true x o e = absurd (cc)
+passed false x o e = (refl, e)
+
+pub has_room_for : (r : Record) (more : ℕ) → exhausts r more ≡ false → length (all_entries r.journal) + more < number_limit
+has_room_for r more e = leb-false number_limit (length (all_entries r.journal) + more) e
+
+-- an acknowledgement of this generation
+pub ack_row : (boxes : List (List Frame)) (r : Record) (p : Packet) → p.generation ≡ r.generation
+    → first_refusal (ack_refusals boxes r p) ≡ cond (exhausts r (length (let_go boxes r p.number))) (Some Exhausted) None
+ack_row boxes r p same = search (arith, rules, eq-eqb)
+
+-- a packet of the current generation
+pub same_generation : (a b : ℕ) → not (a == b) ≡ false → a ≡ b
+same_generation a b e = grind (arith, nat_tests)
 
 -- a frame's length, by a table that didn't refuse it
 pub frame_range : (bytes : List ℕ) → is_bad_length (length bytes) ≡ false → IsFrame (record { items = bytes })
 frame_range bytes e = grind (arith, nat_tests)
 
--- what stands at a place where there is something
-pub some_at : {A : Type 0} (xs : List A) (place : ℕ) → place < length xs → (x : A) × (slice_get xs place ≡ Some x)
-some_at [] place l = absurd (omega arith)
-some_at (x ∷ xs) zero l = (x, refl)
-some_at (x ∷ xs) (suc place) l = some_at xs place (omega arith)
-
--- the frame that has that number
-pub frame_at : (o : Option (ℕ × Frame)) (n : ℕ) → option_map (λ (x : ℕ × Frame). x.0) o ≡ Some n → (f : Frame) × (o ≡ Some (n, f))
-frame_at None n e = absurd (cc)
-frame_at (Some x) n e = let is : x.0 ≡ n = cc in (x.1, λ i. Some (is i, x.1))
-
 -- a client's number, by a table that didn't refuse it
 pub client_range : (c count : ℕ) → not (is_among c count) ≡ false → (1 ≤ c) × (c ≤ count)
 client_range c count e = grind (arith, nat_tests)
-
--- where something stands, there are more
-pub within : {A : Type 0} (xs : List A) (place : ℕ) (x : A) → slice_get xs place ≡ Some x → place < length xs
-within [] place x e = absurd (cc)
-within (y ∷ xs) zero x e = omega arith
-within (y ∷ xs) (suc place) x e = let more = within xs place x e in omega arith
 
 -- A DELIVERY: what its rows say where none holds, and where it finds a full inbox
 
@@ -64,7 +66,7 @@ module _ (word_full : Bool) (count : ℕ) (inbox : List (ℕ × Frame)) (number 
       let h = full_rows (not (is_among c count)) (is_bad_length (length bytes)) (exhausts r 1) word_full (nat_le inbox_frames (length inbox))
       (nat_le number_limit number) is in
       let range = client_range c count h.0 in
-      (range.0, range.1, frame_range bytes h.1, h.2, is_from inbox_frames (length inbox) h.3)
+      (range.0, range.1, frame_range bytes h.1, h.2, leb-true inbox_frames (length inbox) h.3)
 
 -- A CALL OF A CLIENT'S that no row refuses
 
@@ -115,7 +117,7 @@ module _ (word_full : Bool) (r now : Record) (count c place : ℕ) (is_there : B
       by_frame None true e t free is = let k = ap (λ (o : Outcome). o.0) is in absurd (cc)
       by_frame (Some f) true e t free is =
           let k = entry_free word_full r count c free in
-          (ap (option_map entry) e, within box place f e, ap (λ (o : Outcome). o.1) is, k.0, k.1, k.2)
+          (ap (option_map entry) e, slice_get_within box place f e, ap (λ (o : Outcome). o.1) is, k.0, k.1, k.2)
 
 pub lost_none : (r now : Record) (is_there : Bool) (o : Option Entry) → is_there ≡ false → (loss_reply is_there, now) ≡ loss_of r o
     → (o ≡ None) × (now ≡ r)

@@ -10,13 +10,15 @@ use Rattle.pair_history.specs.Landings.{landings, DropsAtFull, BoxesFit}
 use Rattle.pair_history.specs.Moves.{Move, Steps, Arrives, entries_of, guest_along, frames_along, left, AllCan}
 use Rattle.pair_history.specs.laws.Histories.{at-append}
 use Rattle.pair_history.specs.laws.Landings.{AllClients-targets, landings-land, AllLand}
-use Rattle.pair_record.specs.{declared.window.Window.Window, internal.Accords.Accords}
+use Rattle.pair_record.specs.{declared.window.Window.Window, Accords.Accords}
 use Rattle.pair_journal.specs.Journal.{joined, kept_entries, all_entries}
 use Rattle.pair_record.specs.Protocol.{Record, shown_at, live_at, all_held, outbox_of, step_entries, cut_done, landed_after}
 use Rattle.pair_record.specs.Record.{IsRecord, IsLone, ports_after_all}
 use Rattle.pair_record.specs.Window.{committed_of, committed_count}
-use Rattle.pair_record.proofs.{AccordLaws.{kept_now, left_now, sealed_now, sent_is, kept_is}, WindowLaws.within, EpochAccords.take-none}
-use Rattle.pair_record.proofs.EpochAccords as land
+use Rattle.pair_record.specs.Accords.{kept_now, left_now, sealed_now}
+use Rattle.pair_record.specs.laws.{Accords.{sent_is, kept_is}, Windows.within}
+use Rattle.std.proofs.Math.Seq.{take-nil}
+use Rattle.pair_record.specs.laws.Epochs as land
 
 -- ALL OF THE RUNNING EPOCH, and no step more
 
@@ -97,7 +99,7 @@ module _ (start : HistoryState) (r : Record) (p : PortsState) (h : Accords start
       let lives : live_at start r ≡ s = ap (at start) kept in
       let none : s.out ≡ [] =
       h.owed ∙ (λ i. targets_of (length p.boxes) (frames_of (committed_of r.window (k.1 i))))
-      ∙ ap (λ (es : List Epoch). targets_of (length p.boxes) (frames_of es)) (take-none (committed_count r.window)) in
+      ∙ ap (λ (es : List Epoch). targets_of (length p.boxes) (frames_of es)) (take-nil (committed_count r.window)) in
       let t = after s Ran in
       let ps = targets_of n (sent s.guest) in
       let out : t.out ≡ ps ++ [] = ap (λ (x : List (ℕ × Frame)). x ++ ps) none ∙ sym (append-nil ps) in

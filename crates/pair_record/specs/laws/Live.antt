@@ -1,27 +1,29 @@
 -- Where the backup goes live: what was kept is discarded, what the clients are owed lands, and the guest is the history's.
-use Rattle.std.proofs.Common.{◌≡◌, ℕ, List, [], ◌++◌, length, refl, sym, ap, ◌∙◌, subst}
+use Rattle.std.proofs.Common.{◌≡◌, ℕ, List, [], ◌++◌, length, refl, sym, ap, ◌∙◌, subst, ◌+◌, arith}
+use Rattle.std.proofs.{Math.Seq.{take-nil, drop-nil}, lemmas.List.{length-append}}
 use Rattle.frame_ports.specs.{Addresses.targets_of, Lands.lands, Ports.PortsState}
 use Rattle.output_gate.specs.Epochs.{Epoch, frames_of}
-use Rattle.pair_history.specs.{Entries.{Frame, Entry}, Failures.go_live_entries}
-use Rattle.pair_history.specs.{HistoryState.{HistoryState, at, Legal}, Landings.{BoxesFit, DropsAreAskedOrFull}}
-use Rattle.pair_history.specs.Moves.{left}
-use Rattle.pair_history.specs.Order.{AreGuests}
-use Rattle.pair_history.specs.laws.Drops.{DropsAreAskedOrFull-append}
-use Rattle.pair_history.proofs.DropLaws.{go_live-asked}
-use Rattle.pair_history.proofs.FailureLaws.{goes_live}
-use Rattle.pair_history.specs.laws.Moves.{AreGuests-moves}
-use Rattle.pair_history.specs.Reached.{AllClients}
-use Rattle.pair_history.specs.laws.Landings.{AllClients-targets, BoxesFit-lands}
+use Rattle.pair_history.specs.{Entries.{Frame, Entry}, Failures.{go_live_entries, arrived_numbers, drops_of_taken_in}}
+use Rattle.pair_history.specs.{HistoryState.{HistoryState, at, Legal}, Landings.{BoxesFit, DropsAreAskedOrFull}, Moves.left}
+use Rattle.pair_history.specs.{Order.AreGuests, Reached.AllClients}
+use Rattle.pair_history.specs.laws.{Drops.DropsAreAskedOrFull-append, Moves.{AreGuests-moves, Legal-moves}, Landings.AllClients-targets}
+use Rattle.pair_history.specs.laws.{Landings.BoxesFit-lands, Losses.AreRising-left, Histories.{at-append, Legal-append}}
+use Rattle.pair_history.specs.laws.GoingLive.{go_live-asked, goes_live}
 use Rattle.frame_ports.specs.laws.Lands.{length-lands}
-use Rattle.pair_history.specs.laws.Losses.{AreRising-left}
-use Rattle.pair_history.specs.laws.Moves.{Legal-moves}
-use Rattle.pair_history.specs.laws.Histories.{at-append, Legal-append}
-use Rattle.pair_record.specs.internal.Accords.{AreClients, AreInboxes, Accords}
-use Rattle.pair_record.specs.Kept.{frames_by_epoch}
-use Rattle.pair_journal.specs.Journal.{kept_entries}
-use Rattle.pair_record.specs.Protocol.{Record, shown_at, live_entries, go_live_done}
-use Rattle.pair_record.specs.{Record.ports_after_live, Window.{committed_of, committed_count, none_pending}}
-use Rattle.pair_record.proofs.{EpochAccords.{take-none, drop-none}, AccordLaws.{kept_now, left_now, kept_is, live_waiting}}
+use Rattle.pair_record.specs.{Accords.{AreClients, AreInboxes, Accords, kept_now, left_now}, Kept.frames_by_epoch, Protocol.Record}
+use Rattle.pair_record.specs.{Protocol.{shown_at, live_entries, go_live_done}, Record.{ports_after_live}}
+use Rattle.pair_record.specs.Window.{committed_of, committed_count, none_pending}
+use Rattle.pair_record.specs.{FailureActs.entries_with}
+use Rattle.pair_journal.specs.Journal.{kept_entries, Journal}
+use Rattle.pair_record.specs.laws.{Accords.{kept_is, live_waiting}}
+use Rattle.pair_journal.specs.laws.Joined.{length-drops}
+
+pub length-live : (landed : List Entry) (j : Journal)
+    → length (entries_with landed j) ≡ length (arrived_numbers (kept_entries j)) + length landed
+length-live landed j =
+    let a = length-append (drops_of_taken_in (kept_entries j)) landed in
+    let b = length-drops j in
+    omega arith
 
 module _ (start : HistoryState) (r : Record) (p : PortsState) (h : Accords start r p) where
   -- where these are the ports' boxes, and these frames what the gate holds of committed checkpoints
@@ -97,9 +99,9 @@ module _ (start : HistoryState) (r : Record) (p : PortsState) (h : Accords start
           running_are = refl;
           can = tt;
         };
-        frames = ap frames_by_epoch (drop-none (committed_count window));
+        frames = ap frames_by_epoch (drop-nil (committed_count window));
         clients = rw shown clients;
         owed =
             ap (λ (t : HistoryState). t.out) shown
-            ∙ ap (λ (es : List Epoch). targets_of (length (lands b on_their_way)) (frames_of es)) (sym (take-none (committed_count window)));
+            ∙ ap (λ (es : List Epoch). targets_of (length (lands b on_their_way)) (frames_of es)) (sym (take-nil (committed_count window)));
       }

@@ -4,13 +4,14 @@ use Rattle.frame_ports.specs.{Addresses.targets_of, Numbers.renumbered, Ports.Po
 use Rattle.output_gate.specs.Epochs.{Epoch, frames_of}
 use Rattle.pair_history.specs.HistoryState.{HistoryState, at}
 use Rattle.std.proofs.lemmas.List.{append-nil}
-use Rattle.pair_record.specs.internal.Accords.{frames_by_epoch, Accords}
+use Rattle.pair_record.specs.Accords.{frames_by_epoch, Accords}
 use Rattle.pair_journal.specs.Journal.{joined}
-use Rattle.pair_record.specs.Limits.{first_frame}
+use Rattle.pair_record.specs.Limits.{first_frame, full_checkpoint}
 use Rattle.pair_record.specs.Record.{IsLone}
 use Rattle.pair_record.specs.Protocol.{Record, shown_at, live_at, begin_done, full_done, protect_done}
-use Rattle.pair_record.specs.Window.{committed_count}
-use Rattle.pair_record.proofs.{AccordLaws.{numbered_accords}, EpochAccords.{take-none, drop-none, seal_accords}}
+use Rattle.pair_record.specs.Window.{committed_count, none_pending}
+use Rattle.pair_record.specs.laws.{Accords.numbered_accords, Epochs.seal_accords}
+use Rattle.std.proofs.Math.Seq.{take-nil, drop-nil}
 
 module _ (start : HistoryState) (r : Record) (p : PortsState) (h : Accords start r p) where
   -- its frames are numbered anew
@@ -30,13 +31,16 @@ module _ (start : HistoryState) (r : Record) (p : PortsState) (h : Accords start
         let m = committed_count r.window in
         record {
           journal = h.journal;
-          frames = sym (ap (λ (es : List Epoch). frames_by_epoch (drop m es)) k.1 ∙ ap frames_by_epoch (drop-none m)) ∙ h.frames;
+          frames = sym (ap (λ (es : List Epoch). frames_by_epoch (drop m es)) k.1 ∙ ap frames_by_epoch (drop-nil m)) ∙ h.frames;
           clients = h.clients;
           owed =
               h.owed ∙ (λ i. targets_of n (frames_of (take m (k.1 i))))
-              ∙ ap (λ (es : List Epoch). targets_of n (frames_of es)) (take-none m);
+              ∙ ap (λ (es : List Epoch). targets_of n (frames_of es)) (take-nil m);
         }
+
+pub none_before : committed_count (none_pending full_checkpoint) ≤ length {A = Epoch} []
+none_before = omega arith
 
 module _ (start : HistoryState) (r : Record) (p : PortsState) (h : Accords start r p) (k : IsLone r) where
   abbrev pub protect_accords : Accords start (protect_done r).1 (renumbered p)
-  protect_accords = full_accords start (begin_done r).1 p (begin_accords start r p h k) (omega arith)
+  protect_accords = full_accords start (begin_done r).1 p (begin_accords start r p h k) none_before

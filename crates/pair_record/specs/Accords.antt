@@ -61,3 +61,14 @@ pub record Accords (start : HistoryState) (r : Record) (p : PortsState) : Type 0
   pub frames : frames_by_epoch (uncommitted_of r.window r.pending) ≡ epoch_frames (shown_at start r).guest journal.sealed_moves
   pub clients : AreClients (shown_at start r) (left (shown_at start r).waiting (kept_moves start r.journal journal)) p
   pub owed : (shown_at start r).out ≡ targets_of (length p.boxes) (frames_of (committed_of r.window r.pending))
+
+module _ (start : HistoryState) (r : Record) (p : PortsState) (h : Accords start r p) where
+  -- all moves that are sealed; all that are kept; and what still waits after these
+  abbrev pub sealed_now : List Move
+  sealed_now = all_moves h.journal.sealed_moves
+
+  abbrev pub kept_now : List Move
+  kept_now = kept_moves start r.journal h.journal
+
+  abbrev pub left_now : List Waiting
+  left_now = left (shown_at start r).waiting kept_now
