@@ -1,12 +1,12 @@
 -- What is on its way to the clients is what the backup's image keeps that has not come for them.
 use Rattle.std.proofs.Common.{◌≡◌, ℕ, zero, suc, ◌+◌, ◌-◌, ◌<◌, ◌≤◌, List, [], ◌∷◌, ◌++◌, length, refl, sym, ap, ◌∙◌, arith, append_assoc}
-use Rattle.std.proofs.{Common.{Bool, true, false, cond}, lemmas.List.Elements.{All-head, All-tail}}
-use Rattle.std.specs.{Prelude.{All, nat_lt, slice_index_or}, List.filter}
-use Rattle.frame_ports.specs.{Addresses.{clients_of, paired_with, targets_of}, Numbers.{last_come, is_new}, Ports.PortsState}
+use Rattle.std.proofs.{Common.{true, false, cond}, lemmas.List.Elements.{All-head, All-tail}}
+use Rattle.std.specs.{Prelude.{All, slice_index_or}, List.filter}
+use Rattle.frame_ports.specs.{Addresses.{paired_with, targets_of}, Numbers.{last_come, is_new}, Ports.PortsState}
 use Rattle.output_gate.specs.{Epochs.frames_of, Landings.{AreOld, clients_for}}
 use Rattle.backup_image.specs.Images.{ImageState}
 use Rattle.pair_history.specs.{Entries.Frame, HistoryState.HistoryState}
-use Rattle.pair_record.specs.{Kept.{all_frames, Brings}, Protocol.{Record, shown_at}, Record.{AreNumbered, first_held, owed_to}}
+use Rattle.pair_record.specs.{Protocol.{Record, shown_at}, Record.{AreNumbered, first_held, owed_to}}
 use Rattle.pair_record.specs.Window.{committed_of}
 use Rattle.pair_core.specs.Kept.{KeepsFrames, first_kept, kept_targets, new_targets}
 use Rattle.pair_core.proofs.KeptLaws.{keeps_brings}

@@ -1,14 +1,14 @@
 -- What a table of refusals says where it refuses nothing, and where a loss or a full inbox is told.
 use Rattle.std.proofs.Common.{◌≡◌, ℕ, ◌<◌, ◌≤◌, List, [], ◌∷◌, length, refl, ap, arith, Bool, true, false, Option, None, Some}
 use Rattle.std.proofs.{Common.{rules, ◌+◌, cond}, lemmas.Bool.Decides.nat_tests, lemmas.Bool.{leb-true, eq-eqb}}
-use Rattle.std.proofs.{lemmas.Bool.leb-false, lemmas.Option.slice_get_within}
-use Rattle.std.specs.Prelude.{slice_get, option_map, not, nat_le, ◌==◌}
+use Rattle.std.proofs.{lemmas.Bool.{leb-false, lt-ltb, lt-leb}, Common.{sym, ◌∙◌}, lemmas.Option.slice_get_within}
+use Rattle.std.specs.Prelude.{slice_get, option_map, not, nat_le, nat_lt, ◌==◌, ◌&&◌}
 use Rattle.frame_ports.specs.{Addresses.IsFrame, Limits.{inbox_frames, number_limit}}
 use Rattle.pair_history.specs.Entries.{Frame, Entry, DropIn, DropOut}
-use Rattle.pair_record.specs.{declared.event.Refusal.TheVariants.{Full, BadFrame, NoClient, Exhausted}, Protocol.{Record, Outcome, Row}}
+use Rattle.pair_record.specs.{declared.event.Refusal.TheVariants.{Full, BadFrame, NoClient, Exhausted, Stale, Gap}, Protocol.{Record, Outcome, Row}}
 use Rattle.pair_record.specs.Protocol.{first_refusal, exhausts, is_among, is_bad_length, deliver_refusals, take_refusals, loss_refusals}
 use Rattle.pair_record.specs.Protocol.{loss_of, loss_done, loss_reply, lost_in, lost_out}
-use Rattle.pair_record.specs.{Protocol.{ack_refusals, let_go}, declared.event.Packet.Packet}
+use Rattle.pair_record.specs.{Protocol.{ack_refusals, acknowledge_refusals, let_go}, declared.event.Packet.Packet}
 use Rattle.pair_journal.specs.Journal.{all_entries}
 
 -- no row applies: the first doesn't, nor do the others
@@ -76,6 +76,49 @@ entry_free word_full r count c free =
     let client = passed _ _ _ free in
     let range = client_range c count client.0 in
     (range.0, range.1, (passed _ _ _ (passed _ _ _ client.1).1).0)
+
+-- AN ACKNOWLEDGEMENT that no row refuses; and where no number beyond the last commit can come, and the word isn't full
+
+pub acknowledge_free : (word_full : Bool) (boxes : List (List Frame)) (r : Record) (p : Packet)
+    → first_refusal (acknowledge_refusals word_full boxes r p) ≡ None
+    → (p.generation ≡ r.generation) × (p.number < r.window.to_commit) × (exhausts r (length (let_go boxes r p.number)) ≡ false)
+    × (0 < length (let_go boxes r p.number) → word_full ≡ false)
+acknowledge_free word_full boxes r p free =
+    let stale = passed _ _ _ free in
+    let gap = passed _ _ _ stale.1 in
+    let out = passed _ _ _ gap.1 in
+    let word = passed _ _ _ out.1 in (
+      same_generation p.generation r.generation stale.0,
+      leb-false r.window.to_commit p.number gap.0,
+      out.0,
+      λ some. ap (λ t. t && word_full) (sym (lt-ltb 0 (length (let_go boxes r p.number)) some)) ∙ word.0,
+    )
+
+pub acknowledge_as : (boxes : List (List Frame)) (r : Record) (p : Packet) → (p.generation ≡ r.generation → p.number < r.window.to_commit)
+    → first_refusal (acknowledge_refusals false boxes r p) ≡ first_refusal (ack_refusals boxes r p)
+acknowledge_as boxes r p known = by_test (not (p.generation == r.generation)) refl
+  where
+    leaving : ℕ
+    leaving = length (let_go boxes r p.number)
+
+    never : (b : Bool) → b && false ≡ false
+    never true = refl
+    never false = refl
+
+    fewer : (gap out word : Bool) → gap ≡ false → word ≡ false
+        → first_refusal ((gap, Gap) ∷ (out, Exhausted) ∷ (word, Exhausted) ∷ []) ≡ first_refusal ((out, Exhausted) ∷ [])
+    fewer true out word a b = absurd (cc)
+    fewer false out true a b = absurd (cc)
+    fewer false out false a b = refl
+
+    by_test : (stale : Bool) → not (p.generation == r.generation) ≡ stale
+        → first_refusal ((stale, Stale) ∷ (nat_le r.window.to_commit p.number, Gap) ∷ (exhausts r leaving, Exhausted)
+        ∷ (nat_lt 0 leaving && false, Exhausted) ∷ [])
+        ≡ first_refusal ((stale, Stale) ∷ (exhausts r leaving, Exhausted) ∷ [])
+    by_test true e = refl
+    by_test false e =
+        fewer (nat_le r.window.to_commit p.number) (exhausts r leaving) (nat_lt 0 leaving && false)
+        (lt-leb r.window.to_commit p.number (known (same_generation p.generation r.generation e))) (never (nat_lt 0 leaving))
 
 -- A LOSS: which frame of an inbox and of a box was dropped, and that none was there
 
