@@ -20,7 +20,7 @@ use Rattle.pair_book.specs.declared.runner.Kind.{Kind}
 use Rattle.pair_book.specs.declared.runner.Kind.TheVariants.{Nothing, Delta, Full}
 use Rattle.pair_book.specs.Handing.{Handing, handed_behind, handed_next, handed_out}
 use Rattle.pair_book.specs.Submitting.{ended_rows, most_handed, protocol_ended, ended_as}
-use Rattle.pair_book.proofs.EpochWords.{behind-arrivals}
+use Rattle.pair_book.specs.laws.EpochWords.{behind-arrivals}
 
 module _ (r : Record) (p : PortsState) (arrivals steps : ℕ) (fs : List Frame) where
   pub sealed-few : first_refusal (ended_rows Delta steps fs r p) ≡ None

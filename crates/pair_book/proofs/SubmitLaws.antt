@@ -38,7 +38,7 @@ use Rattle.pair_book.specs.Submitting.{protocol_ended, ports_ended, texts_ended,
 use Rattle.pair_book.specs.Submitting.{submit_why, is_checkpoint, is_other}
 use Rattle.pair_book.specs.internal.{Committed.KeepsCommitted, Texts.HasTexts, Tie.IsTied}
 use Rattle.pair_book.specs.internal.Told.{last_of, entered_there, sealed_there, epoch_there, found}
-use Rattle.pair_book.proofs.EpochWords.{own-epoch, epoch-is}
+use Rattle.pair_book.specs.laws.EpochWords.{own-epoch, epoch-is}
 use Rattle.pair_book.proofs.HandingLaws.{hands-firsts}
 use Rattle.pair_book.proofs.HandedNext.{hands-behind}
 use Rattle.pair_book.proofs.{CommittedHanding.behind-keeps, CommittedSeals.{sealed-keeps, full-keeps, lone-keeps}}

@@ -33,7 +33,7 @@ use Rattle.growing_history.specs.laws.Waiting.{sealed-wait}
 use Rattle.pair_book.specs.Handing.{handing, handed_next}
 use Rattle.pair_book.specs.Settled.{epoch_of}
 use Rattle.pair_book.specs.internal.{Tie.IsTied, Waits.AreWaiting}
-use Rattle.pair_book.proofs.EpochWords.{epoch-is, rest-is, epoch-guests, is-epoch, handed-parts, entered-wait}
+use Rattle.pair_book.specs.laws.EpochWords.{epoch-is, rest-is, epoch-guests, is-epoch, handed-parts, entered-wait}
 use Rattle.pair_book.proofs.{HandedNext.{Hands, hands}, Ties.{step-tied, sealed-joined, tied-guests}, Waits.still-waiting}
 
 pub entries-push : (es : List Epoch) (e : Epoch) → entries_of (es ++ e ∷ []) ≡ entries_of es ++ e.entries

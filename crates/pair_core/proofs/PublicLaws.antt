@@ -18,13 +18,13 @@ use Rattle.pair_record.specs.declared.event.Refusal.{Refusal}
 use Rattle.pair_record.specs.{declared.event.Refusal.TheVariants.NoMemory, declared.event.Reply.Reply}
 use Rattle.pair_core.specs.Answering.{AnswersEvent, MayWantMemory}
 use Rattle.pair_record.specs.{Journal.{first_of, kept_entries}, Modes.is_alone}
-use Rattle.pair_core.specs.{Drops.{DropsOnly, LetsOut, Drops}, internal.Invariant.Holds}
+use Rattle.pair_core.specs.{Drops.{DropsOnly, LetsOut, Drops}, Invariant.Holds}
 use Rattle.pair_record.specs.{Protocol.{outcome, step_entries}, Record.IsRecord}
 use Rattle.pair_core.specs.Pair.{Pair, shown_state, live_state}
 use Rattle.pair_record.specs.laws.Alone.{step_drops, failure_drops}
 use Rattle.pair_record.specs.laws.{Clients.{ack_lands, ack_leaves}, Live.{all_clients, all_fit}}
 use Rattle.pair_core.proofs.Ends.{Ends, answers_end, at_once}
-use Rattle.pair_core.proofs.LineLaws.{below_at}
+use Rattle.pair_core.specs.laws.Lines.{below_at}
 use Rattle.pair_core.specs.Lines.{Protocol, got, lines_after}
 use Rattle.std.proofs.lemmas.Option.{slice_get_within}
 use Rattle.pair_record.specs.declared.event.Reply.TheVariants as replies

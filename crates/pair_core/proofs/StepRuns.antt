@@ -10,7 +10,7 @@ use Rattle.pair_history.specs.{Entries.{Frame, Ran}, HistoryState.HistoryState}
 use Rattle.pair_history.specs.Moves.{Steps, guest_along, frames_along}
 use Rattle.pair_record.specs.{declared.event.Refusal.Refusal, declared.event.Refusal.TheVariants.{Stopped, CutNeeded, Exhausted}}
 use Rattle.pair_record.specs.{Journal.{all_entries, with_running, with_moves}, Limits.lone_step_entries}
-use Rattle.pair_core.specs.internal.Invariant.{Holds, HoldsAmid}
+use Rattle.pair_core.specs.Invariant.{Holds, HoldsAmid}
 use Rattle.pair_record.specs.Modes.{is_stopped, is_alone}
 use Rattle.pair_core.specs.{Nodes.after_run, Pair.Pair}
 use Rattle.pair_record.specs.Protocol.{step_outcome, outbox_of, step_room, step_entries, Record, Outcome, first_refusal, or_else, refused}
@@ -18,7 +18,7 @@ use Rattle.pair_record.specs.{GuestActs.frame_after_step, Protocol.{shown_at, li
 use Rattle.pair_core.specs.Answering.{step_reply}
 use Rattle.pair_core.specs.Runs.{goes_on, steps_outcome, with_steps}
 use Rattle.pair_record.specs.Accords.{left_now}
-use Rattle.pair_core.proofs.{Consistent.live_is, Events.{moves_stand, two_hold}, NodesLaws.{shape-after_steps, base-after_run}}
+use Rattle.pair_core.specs.laws.{Consistent.live_is, Events.{moves_stand, two_hold}, Nodes.{shape-after_steps, base-after_run}}
 use Rattle.pair_record.specs.Joined.{length-all}
 use Rattle.std.proofs.lemmas.Bool.{lt-leb}
 use Rattle.pair_history.specs.laws.Moves.{entries-steps, can-steps, left-steps}

@@ -16,8 +16,9 @@ use Rattle.pair_record.specs.Protocol.{take_refusals, loss_refusals, loss_of, lo
 use Rattle.pair_record.specs.Protocol.{deliver_done, deliver_refusals, delivery_refused, is_bad_length, unless}
 use Rattle.std.proofs.lemmas.Bool.{lt-leb, le-leb}
 use Rattle.pair_record.specs.ClientActs.{if_there}
-use Rattle.pair_core.specs.{internal.Invariant.Holds, Lines.{got, lines_after}, Nodes.with_arrival, Pair.Pair}
-use Rattle.pair_core.proofs.{AllLands.admitted_holds, ClientEvents.{take_holds, lose_in_holds, lose_out_holds, deliver_holds, full_holds}}
+use Rattle.pair_core.specs.{Invariant.Holds, Lines.{got, lines_after}, Nodes.with_arrival, Pair.Pair}
+use Rattle.pair_core.specs.laws.{AllLands.admitted_holds, ClientEvents.{take_holds, lose_in_holds, lose_out_holds, deliver_holds}}
+use Rattle.pair_core.specs.laws.ClientEvents.{full_holds}
 use Rattle.pair_core.proofs.{LossOutcomes.{lose_in_sight, lose_out_sight, loss_goes}, Outcomes.{admit_goes, goes, deliver_goes, deliver_stops}}
 use Rattle.pair_nodes.specs.Matching.{Fits, HasRoom, Kept, Matches, IsServed, network_of, site_of}
 use Rattle.pair_history.specs.HistoryState.{HistoryState, sent_along}

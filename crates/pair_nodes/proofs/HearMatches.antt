@@ -15,7 +15,8 @@ use Rattle.pair_record.specs.laws.Windows.{leaves, left_over, within}
 use Rattle.std.proofs.lemmas.Bool.{lt-leb}
 use Rattle.std.proofs.lemmas.List.{length-take-le, take-append-drop}
 use Rattle.pair_core.specs.{Pair.{Pair, shown_state}}
-use Rattle.pair_core.proofs.{ClientEvents.ack_holds, LineLaws.below_at, Outcomes.goes}
+use Rattle.pair_core.specs.laws.{ClientEvents.ack_holds, Lines.below_at}
+use Rattle.pair_core.proofs.Outcomes.{goes}
 use Rattle.pair_nodes.specs.Matching.{AreNumberedFrom, HaveNames, Fits, Kept, Matches, IsServed, HasRoom, site_of, WasAcknowledged}
 use Rattle.pair_nodes.specs.Networks.{Output, with_out}
 use Rattle.pair_nodes.specs.Runs.{Premises, adds}

@@ -14,7 +14,8 @@ use Rattle.pair_record.specs.{Record.{AreNumbered, SuitsMode, owed_to, ports_aft
 use Rattle.pair_record.specs.laws.{Owed.brought_ports, Live.length-live, Records.live_record, Numbers.live_numbers}
 use Rattle.std.proofs.{Math.Seq.drop-nil, lemmas.Bool.lt-leb}
 use Rattle.pair_core.specs.{Kept.first_kept, Lines.packet, Nodes.gone_live, Pair.{Pair, shown_state}}
-use Rattle.pair_core.proofs.{GoneLive.gone_live_holds, KeptLaws.keeps_brings, Outcomes.goes}
+use Rattle.pair_core.specs.laws.{GoneLive.gone_live_holds, Kept.keeps_brings}
+use Rattle.pair_core.proofs.Outcomes.{goes}
 use Rattle.pair_nodes.specs.Matching.{CanGoLive, Fits, HasRoom, Kept, Matches, IsServed, network_of, site_of, primary_of, standby_of}
 use Rattle.frame_ports.specs.laws.Addresses.{targets_of-clients}
 use Rattle.checkpoint_stream.specs.Readings.{begun}

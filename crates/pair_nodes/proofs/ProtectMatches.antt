@@ -13,8 +13,9 @@ use Rattle.std.proofs.Math.Seq.{drop-nil}
 use Rattle.pair_record.specs.laws.Records.{protect_record}
 use Rattle.std.proofs.lemmas.Bool.{lt-leb}
 use Rattle.pair_core.specs.{Lines.packet, Nodes.{left_alone, with_protected}, Pair.Pair}
-use Rattle.pair_core.proofs.{AllLands.all_landed_holds, Consistent.{keeps_nothing, some_cut}, LineLaws.below_at, Outcomes.{fail_backup_sight, goes}}
-use Rattle.pair_core.proofs.Protected.{protect_holds}
+use Rattle.pair_core.specs.laws.{AllLands.all_landed_holds, Consistent.{keeps_nothing, some_cut}, Lines.below_at}
+use Rattle.pair_core.proofs.Outcomes.{fail_backup_sight, goes}
+use Rattle.pair_core.specs.laws.Protected.{protect_holds}
 use Rattle.pair_nodes.specs.Matching.{Fits, HasRoom, Kept, Matches, IsServed, held_of, sent_of, site_of, primary_of, standby_of}
 use Rattle.checkpoint_stream.specs.Readings.{begun}
 use Rattle.pair_nodes.proofs.Coming.{fed-none}

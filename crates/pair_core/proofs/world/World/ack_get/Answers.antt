@@ -7,7 +7,8 @@ use Rattle.pair_core.specs.{Answering.AddsEntries, Pair.{shown_state}}
 use Rattle.pair_record.specs.Record.{ports_after_ack}
 use Rattle.pair_core.specs.internal.WorldFields.{pair_of}
 use Rattle.pair_history.specs.laws.Landings.{length-landings}
-use Rattle.pair_core.proofs.{Calls.{moved_to, named}, ClientEvents.ack_holds, LineLaws.below_at, Outcomes.{goes, stops}}
+use Rattle.pair_core.specs.laws.{Events.moved_to, ClientEvents.ack_holds, Lines.below_at}
+use Rattle.pair_core.proofs.{Calls.named, Outcomes.{goes, stops}}
 use Rattle.pair_record.specs.laws.Tables.{acknowledge_free, acknowledge_as}
 use Rattle.pair_core.proofs.world.World.ack_get.Goals.{In-Some}
 use Rattle.pair_core.proofs.world.World.ack_get.Goals as goal

@@ -3,11 +3,12 @@ use Rattle.failover.specs.declared.mode.Mode.TheVariants.{Alone}
 use Rattle.pair_history.specs.Entries.{Frame}
 use Rattle.pair_record.specs.Protocol.{Outcome, first_refusal, fail_backup_refusals, fail_backup_done}
 use Rattle.pair_record.specs.declared.event.Reply.TheVariants as replies
-use Rattle.pair_core.specs.{internal.Invariant.Holds, Nodes.left_alone}
+use Rattle.pair_core.specs.{Invariant.Holds, Nodes.left_alone}
 use Rattle.pair_record.specs.{Record.ports_after_all, Window.none_pending}
 use Rattle.pair_core.specs.internal.WorldFields.{pair_of}
 use Rattle.pair_record.specs.laws.Modes.{failure_goes}
-use Rattle.pair_core.proofs.{AllLands.all_landed_holds, Calls.named, Consistent.some_cut, Outcomes.{stops, goes, fail_backup_sight}}
+use Rattle.pair_core.specs.laws.{AllLands.all_landed_holds, Consistent.some_cut}
+use Rattle.pair_core.proofs.{Calls.named, Outcomes.{stops, goes, fail_backup_sight}}
 use Rattle.pair_core.proofs.world.World.fail_backup.Goals.{After-fail_backup}
 use Rattle.pair_core.proofs.world.World.fail_backup.Goals as goal
 

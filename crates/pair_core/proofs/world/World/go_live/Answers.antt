@@ -3,10 +3,10 @@ use Rattle.frame_ports.specs.{Addresses.IsFrame, Limits.number_limit}
 use Rattle.backup_image.specs.Kept.{count_kept}
 use Rattle.pair_history.specs.Entries.{Frame}
 use Rattle.pair_record.specs.{Kept.Brings, Protocol.{Outcome, first_refusal, go_live_refusals}, Record.owed_to}
-use Rattle.pair_core.specs.{Kept.first_kept, internal.Invariant.Holds, internal.WorldFields.pair_of}
+use Rattle.pair_core.specs.{Kept.first_kept, Invariant.Holds, internal.WorldFields.pair_of}
 use Rattle.pair_record.specs.laws.{Modes.{live_goes, live_full}, Tables.passed, Records.some_committed}
 use Rattle.std.proofs.lemmas.Bool.{leb-false}
-use Rattle.pair_core.proofs.{GoneLive.gone_live_holds, KeptLaws.{count-kept, each-of, keeps_brings}}
+use Rattle.pair_core.specs.laws.{GoneLive.gone_live_holds, Kept.{count-kept, each-of, keeps_brings}}
 use Rattle.pair_core.proofs.world.World.go_live.Goals.{After-go_live_refusal}
 use Rattle.pair_core.proofs.world.World.go_live.Goals as goal
 

@@ -2,12 +2,13 @@ use Rattle.std.proofs.Common.{rules, ◌∙◌, ◌+◌, [], ap, sym, subst}
 use Rattle.guest_machine.specs.Guest.{Guest}
 use Rattle.frame_ports.specs.Limits.{number_limit}
 use Rattle.pair_record.specs.declared.event.Event.TheVariants.{Protect}
-use Rattle.pair_core.specs.{internal.Invariant.Holds, Nodes.{Nodes, HasShape, with_protected}}
+use Rattle.pair_core.specs.{Invariant.Holds, Nodes.{Nodes, HasShape, with_protected}}
 use Rattle.pair_record.specs.{Protocol.Outcome, declared.event.Reply.Reply}
 use Rattle.pair_core.specs.{Texts.IsText, internal.WorldFields.pair_of}
 use Rattle.pair_core.specs.{Replication.Replicates}
 use Rattle.pair_record.specs.laws.{Modes.protect_goes, Tables.passed}
-use Rattle.pair_core.proofs.{Consistent.keeps_nothing, Protected.protect_holds, world.World.protect.Goals.In_ok-image}
+use Rattle.pair_core.specs.laws.{Consistent.keeps_nothing, Protected.protect_holds}
+use Rattle.pair_core.proofs.world.World.protect.Goals.{In_ok-image}
 use Rattle.std.proofs.lemmas.Bool.{leb-false}
 use Rattle.pair_core.proofs.ReplicationLaws.{protect_replicates}
 use Rattle.pair_core.proofs.world.World.protect.Goals as goal

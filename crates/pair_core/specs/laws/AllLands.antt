@@ -11,9 +11,9 @@ use Rattle.pair_record.specs.Journal.{joined, all_committed, with_history, with_
 use Rattle.pair_record.specs.Protocol.{all_held, admit_done}
 use Rattle.pair_record.specs.Record.{IsRecord, first_held, ports_landed, ports_after_all, ports_after_admit}
 use Rattle.pair_record.specs.laws.{Accords.sent_is, Numbers.first_lone, Alone.{all_landed_accords, landed_state, landed_is}, Modes.clash}
-use Rattle.pair_core.specs.internal.Invariant.{AreNodes, Holds, KeepsNothing, HoldsAmid}
+use Rattle.pair_core.specs.Invariant.{AreNodes, Holds, KeepsNothing, HoldsAmid}
 use Rattle.pair_core.specs.{Nodes.{Node, Nodes, HasShape, with_arrival}, Pair.Pair}
-use Rattle.pair_core.proofs.{Consistent.{alone_is, keeps_nothing}, Events.{admit_stands, two_hold}, LineLaws.named-more}
+use Rattle.pair_core.specs.laws.{Consistent.{alone_is, keeps_nothing}, Events.{admit_stands, two_hold}, Lines.named-more}
 
 -- what leaves the gate and the outbox
 abbrev pub held : Pair → List (ℕ × Frame)

@@ -9,7 +9,7 @@ use Rattle.pair_history.specs.{Entries.Frame, HistoryState.HistoryState}
 use Rattle.pair_record.specs.{Protocol.{Record, shown_at}, Record.{AreNumbered, first_held, owed_to}}
 use Rattle.pair_record.specs.Window.{committed_of}
 use Rattle.pair_core.specs.Kept.{KeepsFrames, first_kept, kept_targets, new_targets}
-use Rattle.pair_core.proofs.KeptLaws.{keeps_brings}
+use Rattle.pair_core.specs.laws.Kept.{keeps_brings}
 
 new-append : (p : PortsState) (first : ℕ) (fs gs : List Frame)
     → new_targets p first (fs ++ gs) ≡ new_targets p first fs ++ new_targets p (first + length fs) gs

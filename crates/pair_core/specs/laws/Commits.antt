@@ -13,9 +13,9 @@ use Rattle.backup_image.specs.{Kept.{kept_with, sent_with}, Limits.number_limit}
 use Rattle.pair_history.specs.Moves.{Move, guest_along, frames_along}
 use Rattle.pair_history.specs.laws.Moves.{guest_along-append}
 use Rattle.pair_record.specs.Accords.{all_moves}
-use Rattle.pair_core.specs.internal.Invariant.{AreNodes, IsBacked}
+use Rattle.pair_core.specs.Invariant.{AreNodes, IsBacked}
 use Rattle.pair_core.specs.{Nodes.{Nodes, machine_of, with_commit, first_text, later_texts, read_as}, Texts.IsText}
-use Rattle.pair_core.proofs.NodesLaws.{shape-moves, reads-as, first-sealed, later-sealed}
+use Rattle.pair_core.specs.laws.Nodes.{shape-moves, reads-as, first-sealed, later-sealed}
 use Rattle.epoch_snapshot.specs.Checkpoints.{is_old_delta}
 
 -- the image that a new checkpoint makes

@@ -8,9 +8,9 @@ use Rattle.pair_history.specs.Moves.{Move, entries_of}
 use Rattle.pair_history.specs.HistoryState.{HistoryState}
 use Rattle.pair_record.specs.Protocol.{protect_done}
 use Rattle.pair_record.specs.laws.NewBackups.{lives, protect_accords}
-use Rattle.pair_core.specs.{internal.Invariant.{AreNodes, Holds, KeepsNothing}, Nodes.{HasShape, machine_of, settled_node, with_protected}}
+use Rattle.pair_core.specs.{Invariant.{AreNodes, Holds, KeepsNothing}, Nodes.{HasShape, machine_of, settled_node, with_protected}}
 use Rattle.pair_core.specs.{Pair.{Pair, shown_state}, Texts.IsText}
-use Rattle.pair_core.proofs.{Consistent.live_is, KeptLaws.keeps_none, LineLaws.named-next, NodesLaws.{base-settled, reads-as}}
+use Rattle.pair_core.specs.laws.{Consistent.live_is, Kept.keeps_none, Lines.named-next, Nodes.{base-settled, reads-as}}
 
 -- no entries are no moves
 no-moves : (ms : List Move) → entries_of ms ≡ [] → ms ≡ []

@@ -14,7 +14,7 @@ use Rattle.pair_history.specs.Moves.{Move, Steps, Arrives, guest_along, frames_a
 use Rattle.pair_history.specs.laws.Moves.{guest_along-append}
 use Rattle.pair_record.specs.Accords.{all_moves}
 use Rattle.pair_record.specs.laws.Accords.{all_moves-push}
-use Rattle.pair_core.specs.internal.Invariant.{first_moves, AreSealed, AreNodes, IsBacked}
+use Rattle.pair_core.specs.Invariant.{first_moves, AreSealed, AreNodes, IsBacked}
 use Rattle.pair_core.specs.Nodes.{Node, Nodes, HasShape, node_of, machine_of, settled_node, start_nodes, after_run, with_arrival}
 use Rattle.pair_core.specs.{Nodes.{with_sealed, first_text, later_texts, read_as}, Texts.IsText}
 

@@ -11,7 +11,7 @@ use Rattle.pair_history.specs.{Entries.{Frame, Entry, Ran, Arrive}, HistoryState
 use Rattle.pair_history.specs.Moves.{Move, Steps, Arrives, entries_of, guest_along, frames_along, AllCan}
 use Rattle.pair_history.specs.laws.Moves.{moved, at-moves, sent_along-moves, Legal-moves, AllCan-front, AllCan-back}
 use Rattle.pair_record.specs.Accords.{all_moves, Accords}
-use Rattle.pair_core.specs.internal.Invariant.{first_moves, AreSealed, IsBacked, Holds, KeepsNothing}
+use Rattle.pair_core.specs.Invariant.{first_moves, AreSealed, IsBacked, Holds, KeepsNothing}
 use Rattle.pair_record.specs.{Journal.{joined, first_of, kept_entries}, Modes.is_alone}
 use Rattle.pair_core.specs.Pair.{Pair, shown_state, live_state, HasBackup, ImageFollows, RunsAlone, InMode, is_of_guest, IsConsistent}
 use Rattle.pair_record.specs.Protocol.{outbox_of}
@@ -20,7 +20,8 @@ use Rattle.pair_core.specs.Texts.{IsText, AreTexts}
 use Rattle.pair_record.specs.Accords.{kept_now, left_now, sealed_now}
 use Rattle.pair_record.specs.laws.Accords.{live_guest, live_waiting as waits, sent_is, all_owed, kept_is}
 use Rattle.pair_record.specs.laws.Accords.{sealed_state}
-use Rattle.pair_core.{specs.Kept.kept_targets, proofs.OnTheirWay.on_its_way}
+use Rattle.pair_core.specs.Kept.{kept_targets}
+use Rattle.pair_core.specs.laws.OnTheirWay.{on_its_way}
 
 -- the texts of epochs of moves are those of their entries
 texts_are : (shape : Shape) (generation n : ℕ) (s : HistoryState) (mss : List (List Move)) (rest : List Move) (texts : List (List ℕ))

@@ -16,8 +16,8 @@ use Rattle.pair_record.specs.declared.event.Reply.TheVariants as replies
 use Rattle.pair_record.specs.Record.{IsRecord, AreNumbered, ports_after_ack, ports_after_take, ports_after_lose_in, ports_after_lose_out}
 use Rattle.pair_record.specs.laws.Clients.{ack_lands, ack_accords, take_accords, lose_in_accords, lose_out_accords, deliver_accords}
 use Rattle.pair_record.specs.laws.{Clients.full_accords, Tables.{lost_waiting, lost_landed, lost_none, delivery_full}}
-use Rattle.pair_core.specs.{internal.Invariant.{AreNodes, Holds}, Kept.KeepsFrames, Pair.{Pair, AfterRefusal, shown_state}}
-use Rattle.pair_core.proofs.{Calls.moved_to, KeptLaws.{keeps_ack, keeps_on, risen-same}, LineLaws.named-more}
+use Rattle.pair_core.specs.{Invariant.{AreNodes, Holds}, Kept.KeepsFrames, Pair.{Pair, AfterRefusal, shown_state}}
+use Rattle.pair_core.specs.laws.{Events.moved_to, Kept.{keeps_ack, keeps_on, risen-same}, Lines.named-more}
 
 -- A CLIENT'S EVENT goes into the history, before what is kept: the guest stays as it is
 

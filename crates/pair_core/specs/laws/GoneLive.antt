@@ -3,9 +3,9 @@ use Rattle.std.proofs.Common.{◌≡◌, ℕ, ◌+◌, ◌<◌, ◌≤◌, [], r
 use Rattle.frame_ports.specs.Limits.{number_limit}
 use Rattle.pair_record.specs.{Modes.is_alone, Record.{owed_to, ports_after_live}, Protocol.go_live_done, Window.none_pending}
 use Rattle.pair_record.specs.laws.Live.{live_shown_is, live_accords}
-use Rattle.pair_core.specs.internal.Invariant.{AreNodes, Holds}
+use Rattle.pair_core.specs.Invariant.{AreNodes, Holds}
 use Rattle.pair_core.specs.{Nodes.{HasShape, gone_live}, Pair.{Pair, shown_state}}
-use Rattle.pair_core.proofs.LineLaws.{named-next}
+use Rattle.pair_core.specs.laws.Lines.{named-next}
 
 module _ (w : Pair) (h : Holds w) (two : is_alone w.protocol.state.mode ≡ false) (some : 1 ≤ w.protocol.state.window.to_commit) (steps : ℕ)
     (last : w.protocol.state.generation + 1 < number_limit) where

@@ -5,28 +5,35 @@ use Rattle.std.specs.Prelude.{slice_get}
 use Rattle.failover.specs.declared.mode.Mode.{Mode}
 use Rattle.guest_machine.specs.{declared.shapes.Shape.Shape, Guest.Guest}
 use Rattle.epoch_snapshot.specs.{Bases.IsBase, Checkpoints.Change}
-use Rattle.frame_ports.specs.{Lands.list_of, Ports.empty_ports}
+use Rattle.frame_ports.specs.{Lands.list_of, Ports.{PortsState, empty_ports}}
 use Rattle.pair_history.specs.{Entries.{Frame, Entry}, HistoryState.{start_state}}
 use Rattle.pair_history.specs.Moves.{Move, Arrives, entries_of, guest_along, frames_along, left, AllCan}
 use Rattle.pair_history.specs.laws.Moves.{guest_along-append, frames_along-append}
 use Rattle.pair_record.specs.{Accords.{AreClients, all_moves}, Journal.with_running, Modes.is_alone}
-use Rattle.pair_record.specs.{Protocol.{cut_done, commit_done}, Record.{IsRecord, AreNumbered, ports_after_admit}, Window.with_cut}
+use Rattle.pair_record.specs.{Protocol.{Record, cut_done, commit_done}, Record.{IsRecord, AreNumbered, ports_after_admit}, Window.with_cut}
 use Rattle.pair_record.specs.Window.{with_commit as with_commit_window}
 use Rattle.pair_record.specs.Accords.{kept_now, left_now}
 use Rattle.pair_record.specs.laws.Accords.{moves_accord, arrival_accords, mode_accords}
 use Rattle.pair_record.specs.laws.Accords.{first_sends, some_moves, some_held, shown_after, commit_accords, start_accords}
 use Rattle.pair_record.specs.laws.{Modes.{clash, filled_alone}, Alone.cut_accords}
-use Rattle.pair_core.specs.internal.Invariant.{first_moves, AreSealed, AreNodes, Holds, HoldsAmid}
+use Rattle.pair_core.specs.Invariant.{first_moves, AreSealed, AreNodes, Holds, HoldsAmid}
 use Rattle.pair_core.specs.Lines.{Lines, packet, with_back, start_protocol, AreNamed}
 use Rattle.pair_core.specs.{Pair.{Pair, shown_state}, Texts.IsText}
 use Rattle.pair_core.specs.Nodes.{Node, HasShape, machine_of, start_nodes, with_arrival, with_sealed, with_commit}
 use Rattle.pair_core.specs.Nodes.{first_text, read_as}
-use Rattle.pair_core.proofs.NodesLaws.{shape-arrived, base-with_arrival, first-sealed, length-sealed, backed-live, nodes-cut, nodes-start}
-use Rattle.pair_core.proofs.NodesLaws.{reads-version, reads-frames}
-use Rattle.pair_core.proofs.{CommitLaws.{change, frames-are, image-commit, keeps-nothing, nodes-commit}, LineLaws.{named-more, named-back}}
-use Rattle.pair_core.proofs.KeptLaws.{commit_fits, keeps_commit, keeps_cut, keeps_none, keeps_on, risen-same}
+use Rattle.pair_core.specs.laws.Nodes.{shape-arrived, base-with_arrival, first-sealed, length-sealed, backed-live, nodes-cut, nodes-start}
+use Rattle.pair_core.specs.laws.Nodes.{reads-version, reads-frames}
+use Rattle.pair_core.specs.laws.{Commits.{change, frames-are, image-commit, keeps-nothing, nodes-commit}, Lines.{named-more, named-back}}
+use Rattle.pair_core.specs.laws.Kept.{commit_fits, keeps_commit, keeps_cut, keeps_none, keeps_on, risen-same}
 use Rattle.backup_image.specs.Images.{ImageState}
 use Rattle.failover.specs.Modes.{mode_filled}
+
+-- the invariant where record and ports are these
+pub moved_to : (w : Pair) (now r : Record) (q p : PortsState) → now ≡ r → q ≡ p
+    → Holds (record w { protocol = record w.protocol { state = r }; ports = p })
+    → Holds (record w { protocol = record w.protocol { state = now }; ports = q })
+moved_to w now r q p is ports h =
+    subst Holds (λ i. record w { protocol = record w.protocol { state = sym is i }; ports = sym ports i }) h
 
 -- THE GUEST GOES ON by moves, in the epoch that runs
 
