@@ -24,7 +24,8 @@ pub use Rattle.pair_record.specs.ClientActs.{is_bad_length, deliver_refusals, Re
 pub use Rattle.pair_record.specs.ClientActs.{take_refusals}
 pub use Rattle.pair_record.specs.ClientActs.{take_done, on_take, loss_refusals, loss_done, loss_of, loss_reply, on_loss, lost_in, lost_out}
 pub use Rattle.pair_record.specs.ClientActs.{on_lose_in, on_lose_out}
-pub use Rattle.pair_record.specs.FailureActs.{fail_primary_done, on_fail_primary, all_held, fail_backup_refusals, fail_within_refusals, fail_backup_done}
+pub use Rattle.pair_record.specs.FailureActs.{fail_primary_done, on_fail_primary, all_held, fail_backup_refusals, fail_within_refusals}
+pub use Rattle.pair_record.specs.FailureActs.{fail_backup_done}
 pub use Rattle.pair_record.specs.FailureActs.{on_fail_backup, live_entries, go_live_refusals, go_live_done, on_go_live, protect_refusals}
 pub use Rattle.pair_record.specs.FailureActs.{landed_after, failure_done, begin_done, full_done, protect_done, on_protect}
 

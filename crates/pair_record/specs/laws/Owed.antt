@@ -8,11 +8,13 @@ use Rattle.output_gate.specs.{Epochs.{Epoch, frames_of, frames_to}, Landings.{po
 use Rattle.output_gate.specs.laws.{Ports.{risen-same, risen-after, ports_after-append}, Old.{old-after, old-append, old-back, old-risen}}
 use Rattle.output_gate.specs.laws.Old.{ports_after-old}
 use Rattle.pair_history.specs.{Entries.{Frame, Entry}, Landings.landings}
-use Rattle.pair_record.specs.Kept.{all_frames, frames_by_epoch, Brings, EndOwed, entries_after, brought, brought_entries, ports_after_brought}
+use Rattle.pair_record.specs.Kept.{all_frames, frames_by_epoch, Brings, EndOwed, entries_after, brought, brought_entries}
+use Rattle.pair_record.specs.Kept.{ports_after_brought}
 use Rattle.pair_record.specs.{FailureActs.first_uncommitted, Protocol.{Record, seal_done, commit_done, ack_done}, Record.IsRecord}
 use Rattle.pair_record.specs.{Record.{AreNumbered, first_held, ports_after_ack, owed_to, ports_after_live}, Window.IsWindow}
 use Rattle.pair_record.specs.{Window.{committed_of, uncommitted_of, committed_count}, Tables.Record}
-use Rattle.pair_record.specs.laws.{Accords.next_epoch, Windows.{frames_of-push, next_committed, leaves, gone, committed_left, uncommitted_left, within}}
+use Rattle.pair_record.specs.laws.Accords.{next_epoch}
+use Rattle.pair_record.specs.laws.Windows.{frames_of-push, next_committed, leaves, gone, committed_left, uncommitted_left, within}
 use Rattle.pair_record.specs.laws.Numbers.{in_two, landed_ports, each_below, first_positive}
 use Rattle.pair_journal.specs.laws.Landed.{all_frames-append, entries-append, entries-new, entries-old}
 

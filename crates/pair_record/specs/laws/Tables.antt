@@ -5,7 +5,8 @@ use Rattle.std.proofs.{lemmas.Bool.{leb-false, lt-ltb, lt-leb}, Common.{sym, ◌
 use Rattle.std.specs.Prelude.{slice_get, option_map, not, nat_le, nat_lt, ◌==◌, ◌&&◌}
 use Rattle.frame_ports.specs.{Addresses.IsFrame, Limits.{inbox_frames, number_limit}}
 use Rattle.pair_history.specs.Entries.{Frame, Entry, DropIn, DropOut}
-use Rattle.pair_record.specs.{declared.event.Refusal.TheVariants.{Full, BadFrame, NoClient, Exhausted, Stale, Gap}, Protocol.{Record, Outcome, Row}}
+use Rattle.pair_record.specs.declared.event.Refusal.TheVariants.{Full, BadFrame, NoClient, Exhausted, Stale, Gap}
+use Rattle.pair_record.specs.Protocol.{Record, Outcome, Row}
 use Rattle.pair_record.specs.Protocol.{first_refusal, exhausts, is_among, is_bad_length, deliver_refusals, take_refusals, loss_refusals}
 use Rattle.pair_record.specs.Protocol.{loss_of, loss_done, loss_reply, lost_in, lost_out}
 use Rattle.pair_record.specs.{Protocol.{ack_refusals, acknowledge_refusals, let_go}, declared.event.Packet.Packet}

@@ -1,5 +1,6 @@
 //! What happens at the record where a node goes on alone.
-ghost use Rattle.std.specs.Prelude.{◌≡◌, ◌+◌, ◌*◌, ◌<◌, ◌≤◌, ◌++◌, [], length, replicate, All, IfOk, IfErr, OnOk, OnErr, None, ⊤, false, true};
+ghost use Rattle.std.specs.Prelude.{◌≡◌, ◌+◌, ◌*◌, ◌<◌, ◌≤◌, ◌++◌, [], length, replicate, All, IfOk, IfErr, OnOk, OnErr, None, ⊤, false};
+ghost use Rattle.std.specs.Prelude.{true};
 ghost use Rattle.frame_ports.specs.Addresses.{IsFrame, targets_of};
 ghost use Rattle.frame_ports.specs.Limits.{max_clients, number_limit};
 ghost use Rattle.pair_history.specs.Entries.{Ran};
