@@ -4,13 +4,10 @@ pub mod Fitting
 pub mod Moves
 pub mod Members
 pub mod Epochs
-pub mod LinesFirst
 pub mod OwnEntries
 pub mod CallLaws
 pub mod Missed
-pub mod MissedByBackup
 pub mod TextLaws
-pub mod Arrivals
 pub mod SeatNumbers
 pub mod FailureLaws
 pub mod ServiceLaws

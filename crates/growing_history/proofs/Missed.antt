@@ -17,7 +17,7 @@ use Rattle.growing_history.specs.laws.Logs.{stands, marked, marks-stay}
 use Rattle.growing_history.specs.laws.Logs.{numbers, numbers-rise, lawful, way-after}
 use Rattle.growing_history.proofs.Epochs.{takes-first, takes-second, epoch-first, with-epoch-guests, with-epoch-takes, with-epoch-legal}
 use Rattle.growing_history.proofs.Epochs.{same_guest, same_sent}
-use Rattle.growing_history.proofs.LinesFirst.{GoesFirst, lines-first, lines-guest, frame-stays}
+use Rattle.growing_history.specs.laws.LinesFirst.{GoesFirst, lines-first, lines-guest, frame-stays}
 use Rattle.pair_history.specs.laws.Landings.{landings-unmoved}
 use Rattle.growing_history.specs.laws.Sealed.{sealed-guests}
 use Rattle.growing_history.specs.laws.Sealed.{guests-after}

@@ -17,7 +17,7 @@ use Rattle.growing_history.specs.laws.Logs.{marked, marks-stay, way-after}
 use Rattle.pair_history.specs.laws.Histories.{guests-append, guests-first, guests-second}
 use Rattle.growing_history.proofs.Epochs.{takes-first, same_sent}
 use Rattle.growing_history.specs.laws.Sealed.{entries-append, sealed-guests}
-use Rattle.growing_history.proofs.LinesFirst.{GoesFirst, lines-guest}
+use Rattle.growing_history.specs.laws.LinesFirst.{GoesFirst, lines-guest}
 use Rattle.growing_history.specs.laws.Texts.{makes-same}
 use Rattle.failover.specs.Modes.{mode_filled}
 

@@ -6,3 +6,6 @@ pub mod Sealed
 pub mod Seats
 pub mod Waiting
 pub mod Texts
+pub mod LinesFirst
+pub mod MissedByBackup
+pub mod Arrivals

@@ -33,7 +33,7 @@ use Rattle.pair_book.specs.Running.{may_run}
 use Rattle.pair_book.specs.Settled as book
 use Rattle.pair_book.specs.Settled.{Runs, Follows, epoch_of, numbers_of, settled_runner}
 use Rattle.pair_book.specs.Submitting.{protocol_ended, ended, ended_rows, prepared_rows, submit_why, told_as, epoch_told, wanted_kind}
-use Rattle.pair_book.proofs.EpochWords.{epoch-is, behind-arrivals}
+use Rattle.pair_book.specs.laws.EpochWords.{epoch-is, behind-arrivals}
 use Rattle.hypervisor.specs.Preparing.{Carries, Suits}
 use Rattle.hypervisor.specs.Refusals.{submit_refusals}
 use Rattle.hypervisor.specs.Runners.{RunnerState, IsSized, IsRunner, outside}

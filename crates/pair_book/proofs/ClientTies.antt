@@ -8,8 +8,8 @@ use Rattle.pair_history.specs.HistoryState.{HistoryState}
 use Rattle.pair_record.specs.Journal.{with_history}
 use Rattle.pair_record.specs.Protocol.{Record, deliver_done, take_done}
 use Rattle.pair_record.specs.Record.{ports_after_take}
-use Rattle.pair_record.specs.internal.Accords.{Accords}
-use Rattle.pair_record.proofs.ClientAccords.{take_accords, deliver_accords, full_accords}
+use Rattle.pair_record.specs.Accords.{Accords}
+use Rattle.pair_record.specs.laws.Clients.{take_accords, deliver_accords, full_accords}
 use Rattle.growing_history.specs.Steps.{Step, step, Added}
 use Rattle.growing_history.specs.LogState.{client_seat, state_at, after_step}
 use Rattle.pair_book.specs.Calls.{IsClientSeat, client_of}

@@ -8,7 +8,7 @@ use Rattle.pair_history.specs.HistoryState.{HistoryState}
 use Rattle.pair_record.specs.declared.event.Refusal.TheVariants.{Stopped, Stale, Gap, Exhausted, OldVersion}
 use Rattle.pair_record.specs.Modes.{is_alone}
 use Rattle.pair_record.specs.Protocol.{first_refusal}
-use Rattle.pair_record.proofs.WindowLaws.{is_below}
+use Rattle.std.proofs.lemmas.Bool.{leb-false}
 use Rattle.growing_history.specs.LogState.{state_at}
 use Rattle.pair_book.specs.Books.{BookState}
 use Rattle.pair_book.specs.Calls.{is_word_full}
@@ -66,7 +66,7 @@ commit_may start b by c e later =
       pair = may.1;
       generation = eqb-true c.generation b.protocol.generation rows.1;
       number = same;
-      some = is_below w.to_cut w.to_commit (second-false (is_next b c) (nat_le w.to_cut w.to_commit) next rows.3);
+      some = leb-false w.to_cut w.to_commit (second-false (is_next b c) (nat_le w.to_cut w.to_commit) next rows.3);
       room = word_room b (second-false (is_next b c) (is_word_full b) next rows.4);
     }
 

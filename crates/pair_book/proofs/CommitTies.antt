@@ -11,8 +11,8 @@ use Rattle.pair_record.specs.Journal.{first_of, rest_of}
 use Rattle.pair_record.specs.Modes.{is_alone}
 use Rattle.pair_record.specs.Protocol.{Record, commit_done}
 use Rattle.pair_record.specs.Record.{IsRecord}
-use Rattle.pair_record.specs.internal.Accords.{Accords}
-use Rattle.pair_record.proofs.AccordLaws.{commit_with, some_moves, some_held}
+use Rattle.pair_record.specs.Accords.{Accords}
+use Rattle.pair_record.specs.laws.Accords.{commit_accords, some_moves, some_held}
 use Rattle.growing_history.specs.Steps.{Step, step}
 use Rattle.growing_history.specs.LogState.{LogState, Epoch, state_at, entries_of, IsAlone, IsFirstSealed}
 use Rattle.growing_history.specs.laws.Sealed.{first-sealed}
@@ -80,7 +80,7 @@ module _ (start : HistoryState) (steps : List Step) (r now : Record) (p q : Port
       let moves = some-first a.journal.sealed_moves many in
       let held = some_held start r p a k many in
       subst (λ (y : Record × PortsState). Accords start y.0 y.1) (λ i. (sym is i, sym ports i))
-      (commit_with start r p a k moves.0 moves.1 moves.2 held.0 held.1 held.2)
+      (commit_accords start r p a k moves.0 moves.1 moves.2 held.0 held.1 held.2)
 
   pub committed-tied : IsTied start (steps ++ step by (commit_of c) ∷ []) now q
   committed-tied =

@@ -8,8 +8,8 @@ use Rattle.pair_record.specs.{Kept.{all_frames, Brings}, FailureActs.first_uncom
 use Rattle.pair_record.specs.Protocol.{Record, seal_done, commit_done, ack_done}
 use Rattle.pair_record.specs.Record.{IsRecord, AreNumbered, ports_after_ack}
 use Rattle.pair_record.specs.Window.{IsWindow, committed_of, uncommitted_of}
-use Rattle.pair_record.proofs.OwedLaws.{EndOwed}
-use Rattle.pair_record.proofs.OwedLaws as laws
+use Rattle.pair_record.specs.Kept.{EndOwed}
+use Rattle.pair_record.specs.laws.Owed as laws
 use Rattle.growing_history.specs.Steps.{What, Committed, Protected, Step, Begins, steps_by}
 use Rattle.growing_history.specs.LogState.{LogState, start_of, after_step, Needs, state_after, LegalFrom, LegalSteps, state_at}
 use Rattle.growing_history.specs.laws.Between.{none-first, none-between, same, later}

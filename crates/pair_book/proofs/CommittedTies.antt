@@ -21,7 +21,7 @@ use Rattle.pair_record.specs.Protocol.{deliver_done, take_done, loss_done}
 use Rattle.pair_record.specs.Record.{IsRecord, AreNumbered, start_record, ports_after_ack}
 use Rattle.pair_record.specs.Record.{ports_after_take, ports_after_lose_in, ports_after_lose_out}
 use Rattle.pair_record.specs.Window.{committed_of}
-use Rattle.pair_record.proofs.AccordLaws.{first_is, can_first, first_sends, some_moves, some_held}
+use Rattle.pair_record.specs.laws.Accords.{first_is, can_first, first_sends, some_moves, some_held}
 use Rattle.growing_history.specs.Steps.{What, Added, PrimaryFailed, BackupFailed, Protected, Step, step}
 use Rattle.growing_history.specs.LogState as log
 use Rattle.growing_history.specs.LogState.{LogState, state_at}

@@ -21,9 +21,10 @@ use Rattle.pair_record.specs.EpochActs.{fail_within_done}
 use Rattle.pair_record.specs.Modes.{change_refusal, is_alone}
 use Rattle.pair_record.specs.Protocol.{Record, shown_at, let_go, all_held, ack_done, fail_primary_done, begin_done}
 use Rattle.pair_record.specs.Record.{IsRecord, ports_after_ack, ports_after_all}
-use Rattle.pair_record.specs.internal.Accords.{Accords}
-use Rattle.pair_record.proofs.AccordLaws.{sealed_now, sealed_state, owed_with}
-use Rattle.pair_record.proofs.{ClientAccords.{ack_accords, ack_lands}, HandedAccords.fail_within_accords, ProtectAccords.begin_accords}
+use Rattle.pair_record.specs.Accords.{Accords}
+use Rattle.pair_record.specs.Accords.{sealed_now}
+use Rattle.pair_record.specs.laws.Accords.{sealed_state, owed_with}
+use Rattle.pair_record.specs.laws.{Clients.{ack_accords, ack_lands}, Handed.fail_within_accords, NewBackups.begin_accords}
 use Rattle.growing_history.specs.Steps.{Step, step, Added, PrimaryFailed, BackupFailed, Protected}
 use Rattle.growing_history.specs.LogState.{LogState, state_at, under_way, entries_of, added, IsOwn, AreOwn, AreKnown, HasBackup, IsAlone, IsNew}
 use Rattle.growing_history.specs.laws.Logs.{history-stands}

@@ -7,8 +7,8 @@ use Rattle.pair_history.specs.Entries.{Frame, Entry, Arrive}
 use Rattle.pair_history.specs.HistoryState.{HistoryState, at}
 use Rattle.pair_history.specs.Order.{AreGuests}
 use Rattle.pair_record.specs.Protocol.{Record}
-use Rattle.pair_record.specs.internal.Accords.{Accords}
-use Rattle.pair_record.proofs.AccordLaws.{arrival_accords}
+use Rattle.pair_record.specs.Accords.{Accords}
+use Rattle.pair_record.specs.laws.Accords.{arrival_accords}
 use Rattle.growing_history.specs.LogState.{LogState, entries_of, under_way, first_frames, hands_out}
 use Rattle.pair_book.specs.Handing.{Handing, handing, handed_one, handed_all, handed_out, handed_behind, handed_next, HandsOutFirsts}
 use Rattle.pair_book.specs.Handing.{HandsBehind, firsts}

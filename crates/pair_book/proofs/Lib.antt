@@ -21,7 +21,6 @@ pub mod Start
 pub mod StartSeats
 pub mod HandingLaws
 pub mod CommittedHanding
-pub mod EpochWords
 pub mod HandedNext
 pub mod SubmitTies
 pub mod MadeLaws

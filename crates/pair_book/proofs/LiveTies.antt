@@ -18,9 +18,10 @@ use Rattle.pair_record.specs.Kept.{Brings, brought, brought_entries, brought_ref
 use Rattle.pair_record.specs.Modes.{change_refusal, is_alone}
 use Rattle.pair_record.specs.Protocol.{Record, Row, first_refusal}
 use Rattle.pair_record.specs.Record.{IsRecord, AreNumbered, SuitsMode}
-use Rattle.pair_record.specs.internal.Accords.{Accords}
-use Rattle.pair_record.proofs.{BroughtLaws.{brought_ports, brought_landings}, WindowLaws.is_below}
-use Rattle.pair_record.proofs.LiveAccords.{entries_are, live_accords}
+use Rattle.pair_record.specs.Accords.{Accords}
+use Rattle.pair_record.specs.laws.Owed.{brought_ports, brought_landings}
+use Rattle.std.proofs.lemmas.Bool.{leb-false}
+use Rattle.pair_record.specs.laws.Live.{entries_are, live_accords}
 use Rattle.growing_history.specs.Steps.{Step, step, WentLive, Begins, steps_by}
 use Rattle.growing_history.specs.LogState.{LogState, Epoch, state_at, added, after_step, IsNew}
 use Rattle.growing_history.specs.Views.{Member}
@@ -81,7 +82,7 @@ live_may start b number first kept e =
       free = parts.0;
       mine = eqb-true number (state_at start b.steps).backup rows.0;
       rows = two last many rows.1 rows.2;
-      few = is_below number_limit (r.generation + 1) rows.1;
+      few = leb-false number_limit (r.generation + 1) rows.1;
       room = word_room b rows.3;
     }
 

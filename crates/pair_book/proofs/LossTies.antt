@@ -13,10 +13,11 @@ use Rattle.pair_history.specs.laws.Losses.{AreRising-left, LeavesBefore, leaves-
 use Rattle.pair_record.specs.Journal.{kept_entries}
 use Rattle.pair_record.specs.Protocol.{Record, shown_at, loss_done}
 use Rattle.pair_record.specs.Record.{ports_after_lose_in, ports_after_lose_out, ports_if_lost}
-use Rattle.pair_record.specs.internal.Accords.{Accords}
-use Rattle.pair_record.proofs.AccordLaws.{kept_now, left_now, kept_is}
-use Rattle.pair_record.proofs.ClientAccords.{lose_in_accords, lose_out_accords}
-pub use Rattle.pair_record.proofs.ClientLaws.{lost_waiting, lost_landed, lost_none}
+use Rattle.pair_record.specs.Accords.{Accords}
+use Rattle.pair_record.specs.Accords.{kept_now, left_now}
+use Rattle.pair_record.specs.laws.Accords.{kept_is}
+use Rattle.pair_record.specs.laws.Clients.{lose_in_accords, lose_out_accords}
+pub use Rattle.pair_record.specs.laws.Tables.{lost_waiting, lost_landed, lost_none}
 use Rattle.growing_history.specs.Steps.{Step, step, Added}
 use Rattle.growing_history.specs.LogState.{line_seat, state_at, after_step, under_way, AreOwn, AreKnown}
 use Rattle.pair_book.specs.internal.{Tie.IsTied, Waits.AreWaiting}

@@ -18,7 +18,7 @@ use Rattle.pair_history.specs.laws.Waits.{at-waits, waits-guests, rising-without
 use Rattle.pair_history.specs.laws.Waits.{arrived_numbers-append, arrived_numbers-arrivals}
 use Rattle.pair_record.specs.EpochActs.{guest_epoch, behind}
 use Rattle.pair_record.specs.Protocol.{Record}
-use Rattle.pair_record.specs.internal.Accords.{AreInboxes}
+use Rattle.pair_record.specs.Accords.{AreInboxes}
 use Rattle.growing_history.specs.Steps.{Step, step, Begins}
 use Rattle.growing_history.specs.LogState.{LogState, state_at, sealed_state, entries_of, after_step, IsEpoch, IsAlone}
 use Rattle.growing_history.specs.Views.{Member}
@@ -34,7 +34,7 @@ use Rattle.pair_book.specs.Handing.{Handing, handing, firsts, arrivals_of, Hands
 use Rattle.pair_book.specs.Settled.{epoch_of, runner_outside, settled_runner, numbers_of, Follows, Runs, RunsOn}
 use Rattle.pair_book.specs.Submitting.{protocol_ended, ports_ended, ended, wanted_kind, told_as, epoch_told}
 use Rattle.pair_book.specs.internal.{Tie.IsTied, Waits.{waits_at_last}}
-use Rattle.pair_book.proofs.EpochWords.{epoch-is, behind-arrivals, own-arrived, own-guests}
+use Rattle.pair_book.specs.laws.EpochWords.{epoch-is, behind-arrivals, own-arrived, own-guests}
 use Rattle.pair_book.proofs.MadeLaws.{Alike, sealed-alike, lone-alike, none-before}
 use Rattle.pair_book.proofs.RunLaws.{runs-on}
 use Rattle.pair_book.proofs.SubmitLaws.{Suits, Free, alone-mode}

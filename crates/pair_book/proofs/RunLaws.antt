@@ -24,7 +24,7 @@ use Rattle.pair_book.specs.Made.{Reads, carried, IsPrepared}
 use Rattle.pair_book.specs.Packets.{PacketState}
 use Rattle.pair_book.specs.Settled.{EpochFollows, RunnerOutside, numbers_of, settled_runner, Follows, Runs, epoch_of}
 use Rattle.pair_book.specs.Standing.{Stands}
-use Rattle.pair_book.proofs.EpochWords.{own-epoch}
+use Rattle.pair_book.specs.laws.EpochWords.{own-epoch}
 use Rattle.failover.specs.Modes.{is_filling}
 
 -- IT LOOKS, and has made no step since

@@ -13,12 +13,12 @@ use Rattle.pair_record.specs.Kept.{all_frames, Brings}
 use Rattle.pair_record.specs.Modes.{is_alone}
 use Rattle.pair_record.specs.Protocol.{Record}
 use Rattle.pair_record.specs.Record.{IsRecord, AreNumbered, SuitsMode}
-use Rattle.pair_record.proofs.KeptLists.{all_frames-append}
+use Rattle.pair_record.specs.Landed.{all_frames-append}
 use Rattle.growing_history.specs.Steps.{Step, Begins, steps_by}
 use Rattle.growing_history.specs.LogState.{LogState, Epoch, LegalSteps, state_at, IsAlone}
 use Rattle.growing_history.specs.Views.{Member}
 use Rattle.growing_history.specs.laws.Logs.{live-rise, marks-rise}
-use Rattle.growing_history.proofs.MissedByBackup.{backup-misses-nothing}
+use Rattle.growing_history.specs.laws.MissedByBackup.{backup-misses-nothing}
 use Rattle.pair_book.specs.declared.failures.Ack.{Ack}
 use Rattle.pair_book.specs.Standing.{commits_of, last_four, KeepsLast, KeepsFrames, ack_before, Stands}
 use Rattle.pair_book.specs.internal.{Committed.KeepsCommitted, Tie.IsTied}

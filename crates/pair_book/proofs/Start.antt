@@ -6,8 +6,8 @@ use Rattle.pair_history.specs.Entries.{Arrive}
 use Rattle.pair_history.specs.HistoryState.{HistoryState, start_state}
 use Rattle.pair_record.specs.Protocol.{Record}
 use Rattle.pair_record.specs.Record.{start_record}
-use Rattle.pair_record.specs.internal.Accords.{Accords}
-use Rattle.pair_record.proofs.AccordLaws.{start_accords}
+use Rattle.pair_record.specs.Accords.{Accords}
+use Rattle.pair_record.specs.laws.Accords.{start_accords}
 use Rattle.growing_history.specs.LogState.{LogState, LegalSteps, start_of}
 use Rattle.growing_history.specs.laws.Logs.{state-nil, history-nil}
 use Rattle.pair_book.specs.Opening.{IsBoot}

@@ -12,15 +12,15 @@ use Rattle.pair_record.specs.EpochActs.{guest_epoch, behind, seal_epoch_done, en
 use Rattle.pair_record.specs.Journal.{Journal, all_entries, kept_entries, entered}
 use Rattle.pair_record.specs.Protocol.{Record, first_refusal}
 use Rattle.pair_record.specs.Record.{ports_landed}
-use Rattle.pair_record.proofs.EpochLaws.{kept-sealed, all-entered}
+use Rattle.pair_record.specs.Epochs.{kept-sealed, all-entered}
 use Rattle.pair_record.specs.Joined.{length-all}
 use Rattle.pair_history.specs.laws.Landings.{length-landings}
-use Rattle.pair_record.proofs.RecordLaws.{passed, has_room_for}
+use Rattle.pair_record.specs.laws.Tables.{passed, has_room_for}
 use Rattle.pair_book.specs.declared.runner.Kind.{Kind}
 use Rattle.pair_book.specs.declared.runner.Kind.TheVariants.{Nothing, Delta, Full}
 use Rattle.pair_book.specs.Handing.{Handing, handed_behind, handed_next, handed_out}
 use Rattle.pair_book.specs.Submitting.{ended_rows, most_handed, protocol_ended, ended_as}
-use Rattle.pair_book.proofs.EpochWords.{behind-arrivals}
+use Rattle.pair_book.specs.laws.EpochWords.{behind-arrivals}
 
 module _ (r : Record) (p : PortsState) (arrivals steps : ℕ) (fs : List Frame) where
   pub sealed-few : first_refusal (ended_rows Delta steps fs r p) ≡ None

@@ -17,7 +17,8 @@ use Rattle.pair_record.specs.Journal.{joined}
 use Rattle.pair_record.specs.Modes.{is_alone, is_stopped}
 use Rattle.pair_record.specs.Protocol.{Record}
 use Rattle.pair_record.specs.Record.{IsRecord, IsLone, SuitsMode, AreNumbered}
-use Rattle.pair_record.proofs.{ProtectLaws.none_yet, RecordLaws.{passed, generation_is}, WindowLaws.is_below}
+use Rattle.pair_record.specs.laws.{Records.none_yet, Tables.{passed, same_generation}}
+use Rattle.std.proofs.lemmas.Bool.{leb-false}
 use Rattle.pair_record.specs.{Limits.most_pending, Window.with_cut}
 use Rattle.growing_history.specs.Steps.{Step, step, Begins, Sealed, RanAlone}
 use Rattle.growing_history.specs.LogState.{LogState, state_at, sealed_state, LegalSteps, IsEpoch, HasBackup, IsAlone, MaySeal}
@@ -37,7 +38,7 @@ use Rattle.pair_book.specs.Submitting.{protocol_ended, ports_ended, texts_ended,
 use Rattle.pair_book.specs.Submitting.{submit_why, is_checkpoint, is_other}
 use Rattle.pair_book.specs.internal.{Committed.KeepsCommitted, Texts.HasTexts, Tie.IsTied}
 use Rattle.pair_book.specs.internal.Told.{last_of, entered_there, sealed_there, epoch_there, found}
-use Rattle.pair_book.proofs.EpochWords.{own-epoch, epoch-is}
+use Rattle.pair_book.specs.laws.EpochWords.{own-epoch, epoch-is}
 use Rattle.pair_book.proofs.HandingLaws.{hands-firsts}
 use Rattle.pair_book.proofs.HandedNext.{hands-behind}
 use Rattle.pair_book.proofs.{CommittedHanding.behind-keeps, CommittedSeals.{sealed-keeps, full-keeps, lone-keeps}}
@@ -130,8 +131,8 @@ suits r prepared.Nothing a b o = none-there (is_alone r.mode) b
 suits r (prepared.Checkpoint c) a b o =
     let same = both (c.generation == r.generation) (c.number == r.window.to_cut) o in (
       one-there (is_alone r.mode) a,
-      generation_is c.generation r.generation same.0,
-      generation_is c.number r.window.to_cut same.1,
+      same_generation c.generation r.generation same.0,
+      same_generation c.number r.window.to_cut same.1,
     )
 
 pub record Free (start : HistoryState) (b : BookState) (by : ℕ) (what : Prepared) : Type 0 where
@@ -152,11 +153,11 @@ is-free start b by what ran fs e =
     let six = passed _ _ _ five.1 in
     let run = may (by == (state_at start b.steps).runner) (is_stopped b.protocol.mode) one.0 in
     record {
-      live = generation_is by (state_at start b.steps).runner run.0;
+      live = same_generation by (state_at start b.steps).runner run.0;
       runs = run.1;
       suit = suits b.protocol what three.0 four.0 five.0;
       word = word_room b six.0;
-      few = is_below most_pending (length b.protocol.pending) two.0;
+      few = leb-false most_pending (length b.protocol.pending) two.0;
     }
 
 -- WHICH KIND is wanted, where the primary hasn't stopped

@@ -17,10 +17,11 @@ use Rattle.pair_record.specs.EpochActs.{guest_epoch, behind, epoch_sent, seal_ep
 use Rattle.pair_record.specs.Journal.{joined}
 use Rattle.pair_record.specs.Protocol.{Record, shown_at, full_done}
 use Rattle.pair_record.specs.Record.{IsRecord, IsLone, ports_landed}
-use Rattle.pair_record.specs.internal.Accords.{Accords}
-use Rattle.pair_record.proofs.AccordLaws.{owed_with, sealed_now}
-use Rattle.pair_record.proofs.{EpochAccords.entered_is, EpochLaws.parts, ProtectAccords.full_accords, WindowLaws.within}
-use Rattle.pair_record.proofs.HandedAccords.{epoch_are, held_are, can, same, along, seal_epoch_accords, enter_epoch_accords}
+use Rattle.pair_record.specs.Accords.{Accords}
+use Rattle.pair_record.specs.laws.Accords.{owed_with}
+use Rattle.pair_record.specs.Accords.{sealed_now}
+use Rattle.pair_record.specs.laws.{Epochs.entered_is, Handed.parts, NewBackups.full_accords, Windows.within}
+use Rattle.pair_record.specs.laws.Handed.{epoch_are, held_are, can, same, along, seal_epoch_accords, enter_epoch_accords}
 use Rattle.growing_history.specs.Steps.{Step, step, Sealed, RanAlone}
 use Rattle.growing_history.specs.LogState.{LogState, Epoch, state_at, sealed_state, entries_of, and_all_land, HasBackup, IsAlone}
 use Rattle.growing_history.specs.LogState.{MaySeal}
@@ -32,7 +33,7 @@ use Rattle.growing_history.specs.laws.Waiting.{sealed-wait}
 use Rattle.pair_book.specs.Handing.{handing, handed_next}
 use Rattle.pair_book.specs.Settled.{epoch_of}
 use Rattle.pair_book.specs.internal.{Tie.IsTied, Waits.AreWaiting}
-use Rattle.pair_book.proofs.EpochWords.{epoch-is, rest-is, epoch-guests, is-epoch, handed-parts, entered-wait}
+use Rattle.pair_book.specs.laws.EpochWords.{epoch-is, rest-is, epoch-guests, is-epoch, handed-parts, entered-wait}
 use Rattle.pair_book.proofs.{HandedNext.{Hands, hands}, Ties.{step-tied, sealed-joined, tied-guests}, Waits.still-waiting}
 
 pub entries-push : (es : List Epoch) (e : Epoch) → entries_of (es ++ e ∷ []) ≡ entries_of es ++ e.entries

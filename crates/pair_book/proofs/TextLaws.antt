@@ -10,7 +10,7 @@ use Rattle.pair_record.specs.declared.window.Window.{Window}
 use Rattle.pair_record.specs.Protocol.{Record}
 use Rattle.pair_record.specs.Record.{IsRecord}
 use Rattle.pair_record.specs.Window.{with_cut, with_commit, with_acknowledged, first_after, committed_count}
-use Rattle.pair_record.proofs.WindowLaws.{test_below, is_from, is_below}
+use Rattle.std.proofs.lemmas.Bool.{lt-leb, leb-true, leb-false}
 use Rattle.growing_history.specs.Steps.{What, Added, Sealed, Committed, Step, step}
 use Rattle.growing_history.specs.LogState.{LogState, Epoch, state_at, after_step}
 use Rattle.growing_history.specs.laws.Logs.{state-snoc}
@@ -50,7 +50,7 @@ pub record Stays (xs : List Step) (g n a : ℕ) (ps : List PacketState) : Type 0
 
 stays-none : (xs : List Step) (g n a : ℕ) (ps : List PacketState) → n < a → ArePending xs g a ps → above n ps ≡ ps → Stays xs g n a ps
 stays-none xs g n a ps l h same =
-    let first : first_after n a ≡ a = ap (λ (t : Bool). cond t (n + 1) a) (test_below a n l) in
+    let first : first_after n a ≡ a = ap (λ (t : Bool). cond t (n + 1) a) (lt-leb a n l) in
     record {
       pending = subst (λ (x : ℕ × List PacketState). ArePending xs g x.0 x.1) (λ i. (sym first i, sym same i)) h;
       count = λ i. first i + length (same i);
@@ -64,16 +64,16 @@ next-first n a from = by_test (nat_le (a + 1) n) refl
     by_test : (t : Bool) → nat_le (a + 1) n ≡ t → first_after n (a + 1) ≡ n + 1
     by_test true e = ap (λ (t : Bool). cond t (n + 1) (a + 1)) e
     by_test false e =
-        let l : n < a + 1 = is_below (a + 1) n e in
+        let l : n < a + 1 = leb-false (a + 1) n e in
         ap (λ (t : Bool). cond t (n + 1) (a + 1)) e ∙ omega (arith, l, from)
 
 stays-more : (xs : List Step) (g n a : ℕ) (p : PacketState) (ps : List PacketState) → ArePending xs g a (p ∷ ps)
     → (a ≤ n → Stays xs g n (a + 1) ps) → (t : Bool) → nat_le a n ≡ t → Stays xs g n a (p ∷ ps)
 stays-more xs g n a p ps h later false e =
     let off : nat_le p.number n ≡ false = ap (λ (k : ℕ). nat_le k n) h.1 ∙ e in
-    stays-none xs g n a (p ∷ ps) (is_below a n e) h (ap (λ (t : Bool). cond t (above n ps) (p ∷ ps)) off)
+    stays-none xs g n a (p ∷ ps) (leb-false a n e) h (ap (λ (t : Bool). cond t (above n ps) (p ∷ ps)) off)
 stays-more xs g n a p ps h later true e =
-    let from : a ≤ n = is_from a n e in
+    let from : a ≤ n = leb-true a n e in
     let on : nat_le p.number n ≡ true = ap (λ (k : ℕ). nat_le k n) h.1 ∙ e in
     let gone : above n (p ∷ ps) ≡ above n ps = ap (λ (t : Bool). cond t (above n ps) (p ∷ ps)) on in
     let here : first_after n a ≡ n + 1 = ap (λ (t : Bool). cond t (n + 1) a) e in
@@ -153,7 +153,7 @@ module _ (start : HistoryState) (steps : List Step) (r now : Record) (ps : List 
           → r.window.to_acknowledge ≤ first_after n r.window.to_acknowledge
       least_first true e =
           let is : first_after n r.window.to_acknowledge ≡ n + 1 = ap (λ (t : Bool). cond t (n + 1) r.window.to_acknowledge) e in
-          omega (arith, is, is_from r.window.to_acknowledge n e)
+          omega (arith, is, leb-true r.window.to_acknowledge n e)
       least_first false e =
           let is : first_after n r.window.to_acknowledge ≡ r.window.to_acknowledge =
           ap (λ (t : Bool). cond t (n + 1) r.window.to_acknowledge) e in

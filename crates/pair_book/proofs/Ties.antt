@@ -9,8 +9,8 @@ use Rattle.pair_history.specs.laws.Moves.{Legal-moves}
 use Rattle.pair_history.specs.laws.Histories.{Legal-append}
 use Rattle.pair_record.specs.Journal.{joined, kept_entries, with_history}
 use Rattle.pair_record.specs.Protocol.{Record}
-use Rattle.pair_record.specs.internal.Accords.{Accords, kept_moves}
-use Rattle.pair_record.proofs.AccordLaws.{kept_is}
+use Rattle.pair_record.specs.Accords.{Accords, kept_moves}
+use Rattle.pair_record.specs.laws.Accords.{kept_is}
 use Rattle.growing_history.specs.Steps.{What, Step, step, Added}
 use Rattle.growing_history.specs.LogState.{LogState, Epoch, LegalSteps, Needs, MayStep, DropsKnown, AreOwn, AreKnown}
 use Rattle.growing_history.specs.LogState.{state_at, history_of, entries_of, under_way, added, after_step}

@@ -14,13 +14,14 @@ use Rattle.pair_history.specs.laws.Waiting.{inbox_of-append, AreRising-push, Are
 use Rattle.pair_history.specs.laws.Waits.{at-waits, waits-guests, AllWait-more, LeavesFirst, leaves-first, rising-without_numbers}
 use Rattle.pair_history.specs.laws.Waits.{AllWait-append, without_numbers-append, arrived_numbers-append, arrived_numbers-arrivals}
 use Rattle.pair_record.specs.Record.{ports_after_lose_in}
-use Rattle.pair_record.specs.internal.Accords.{AreInboxes}
-use Rattle.pair_record.proofs.AccordLaws.{AreInboxes-with, apart}
+use Rattle.pair_record.specs.Accords.{AreInboxes}
+use Rattle.pair_record.specs.laws.Accords.{AreInboxes-with}
+use Rattle.std.proofs.lemmas.Bool.{ne_eqb}
 use Rattle.growing_history.specs.Steps.{Added}
 use Rattle.growing_history.specs.LogState.{LogState, entries_of, under_way, after_step, first_frames, hands_out}
 use Rattle.growing_history.specs.Waiting.{StillWait, taken}
 use Rattle.growing_history.specs.laws.Waiting.{way-guests}
-use Rattle.growing_history.proofs.Arrivals.{firsts-wait, firsts-leave}
+use Rattle.growing_history.specs.laws.Arrivals.{firsts-wait, firsts-leave}
 use Rattle.pair_book.specs.{Handing.firsts, internal.Waits.{AreWaiting, waits_at_last}}
 
 -- where nothing was delivered, dropped by the line or handed out
@@ -81,7 +82,7 @@ module _ (s : LogState) (p : PortsState) (w : AreWaiting s p) (guests : AreGuest
               ∙ sym (inbox_of-append c ws (x ∷ [])))
               (λ d other.
               sym (append-nil (inbox_of d ws))
-              ∙ ap (λ (t : Bool). inbox_of d ws ++ cond t ((p.next, f) ∷ []) []) (sym (apart c d (λ (e : c ≡ d). other (sym e))))
+              ∙ ap (λ (t : Bool). inbox_of d ws ++ cond t ((p.next, f) ∷ []) []) (sym (ne_eqb c d (λ (e : c ≡ d). other (sym e))))
               ∙ sym (inbox_of-append d ws (x ∷ []))));
         }
 
@@ -121,7 +122,7 @@ module _ (s : LogState) (p : PortsState) (w : AreWaiting s p) (guests : AreGuest
               (AreInboxes-with (length p.boxes) c p.inboxes fewer ws (without_number n ws) low high w.count w.inboxes
               (ap (λ t. remove t place) mine
               ∙ sym (leaves.1 c ∙ ap (λ t. cond t (remove (inbox_of c ws) place) (inbox_of c ws)) same))
-              (λ d other. sym (leaves.1 d ∙ ap (λ t. cond t (remove (inbox_of c ws) place) (inbox_of d ws)) (apart d c other))));
+              (λ d other. sym (leaves.1 d ∙ ap (λ t. cond t (remove (inbox_of c ws) place) (inbox_of d ws)) (ne_eqb d c other))));
         }
 
 -- THE NUMBERS OF THE FIRST FOUR of each inbox are those of the first four that wait for each client

@@ -1,12 +1,12 @@
 -- Failures and new backups, and acknowledgements: the steps that are no member's, and why they are refused.
-use Rattle.std.specs.Prelude.{◌≡◌, ℕ, ◌+◌, ◌==◌, ◌&&◌, not, nat_lt, nat_le, List, [], ◌∷◌, ◌++◌, length, Option, None, Some}
+use Rattle.std.specs.Prelude.{◌≡◌, ℕ, ◌+◌, nat_le, List, [], ◌∷◌, ◌++◌, length, Option, None, Some}
 use Rattle.frame_ports.specs.Limits.{number_limit}
 use Rattle.pair_history.specs.Entries.{Entry}
 use Rattle.pair_record.specs.declared.event.Event.TheVariants.{AckGet, FailPrimary, FailBackup, Protect}
 use Rattle.pair_record.specs.declared.event.Refusal.{Refusal}
-use Rattle.pair_record.specs.declared.event.Refusal.TheVariants.{Stale, Gap, Exhausted}
+use Rattle.pair_record.specs.declared.event.Refusal.TheVariants.{Exhausted}
 use Rattle.pair_record.specs.Modes.{mode_refusal}
-use Rattle.pair_record.specs.Protocol.{Row, first_refusal, exhausts, let_go, fail_backup_refusals}
+use Rattle.pair_record.specs.Protocol.{Row, first_refusal, let_go, acknowledge_refusals, fail_within_refusals}
 use Rattle.growing_history.specs.Steps.{What, Added, step}
 use Rattle.pair_book.specs.declared.failures.Ack.{Ack}
 use Rattle.pair_book.specs.Books.{BookState}
@@ -36,7 +36,7 @@ fail_primary_why b = first_of (mode_refusal b.protocol.mode FailPrimary) ((is_wo
 abbrev pub fail_backup_why : BookState → Option Refusal
 fail_backup_why b =
     first_of (mode_refusal b.protocol.mode FailBackup)
-    (fail_backup_refusals b.ports.boxes [] b.protocol ++ (is_word_full b, Exhausted) ∷ [])
+    (fail_within_refusals (is_word_full b) b.ports.boxes b.protocol)
 
 abbrev pub protect_why : BookState → Option Refusal
 protect_why b =
@@ -47,12 +47,8 @@ protect_why b =
 abbrev pub leaving_at : BookState → ℕ → ℕ
 leaving_at b n = length (let_go b.ports.boxes b.protocol n)
 
--- An acknowledgement: of another generation, or beyond the last commit. A step is made only where a frame leaves the gate.
+-- an acknowledgement: a step is made only where a frame leaves the gate
 abbrev pub ack_why : BookState → Ack → Option Refusal
 ack_why b ack =
     first_of (mode_refusal b.protocol.mode (AckGet 0))
-    ((not (ack.generation == b.protocol.generation), Stale)
-    ∷ (nat_le b.protocol.window.to_commit ack.number, Gap)
-    ∷ (exhausts b.protocol (leaving_at b ack.number), Exhausted)
-    ∷ (nat_lt 0 (leaving_at b ack.number) && is_word_full b, Exhausted)
-    ∷ [])
+    (acknowledge_refusals (is_word_full b) b.ports.boxes b.protocol (record { generation = ack.generation; number = ack.number }))

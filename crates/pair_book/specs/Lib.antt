@@ -1,4 +1,5 @@
 pub mod internal
+pub mod laws
 pub mod Books
 pub mod Calls
 pub mod Commits

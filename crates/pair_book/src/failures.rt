@@ -31,32 +31,6 @@ pub struct LandedCount {
 }
 
 impl<P: Pair> Book<P> {
-    /// Why an acknowledgement is refused.
-    fn ack_refusal(&self, ack: Ack) -> Option<Refusal>
-        ensures { result ≡ ack_why self.now ack }
-    {
-        if let Some(why) = mode_refusal(self.record.mode(), Event::AckGet(0)) {
-            return Some(why);
-        }
-        if ack.generation != self.record.generation() {
-            return Some(Refusal::Stale);
-        }
-        if ack.number >= self.record.to_commit() {
-            return Some(Refusal::Gap);
-        }
-        let packet = Packet {
-            generation: ack.generation,
-            number: ack.number,
-        };
-        if let Some(why) = self.record.ack_refusal(packet) {
-            return Some(why);
-        }
-        if self.is_word_full() && self.record.leaving(ack.number) > 0 {
-            return Some(Refusal::Exhausted);
-        }
-        None
-    }
-
     /// The backup has committed all checkpoints of the generation up to the acknowledged one: they are no longer pending, with their texts,
     /// and their frames land. Answers what landed.
     ///
@@ -78,7 +52,7 @@ impl<P: Pair> Book<P> {
         ensures memory { OnErr result (ack_why self.old ack ≡ None → 0 < leaving_at self.old ack.number) }
         ensures refused { OnErr result (self.new ≡ self.old) }
     {
-        if let Some(why) = self.ack_refusal(ack) {
+        if let Some(why) = mode_refusal(self.record.mode(), Event::AckGet(0)) {
             return Err(why);
         }
         self.record.keep();
@@ -87,15 +61,13 @@ impl<P: Pair> Book<P> {
             generation: ack.generation,
             number: ack.number,
         };
-        let reply = self.record.acknowledge(packet)?;
-        let Reply::Acked { landed, .. } = reply else {
-            unreachable!();
-        };
+        let word_full = self.is_word_full();
+        let count = self.record.acknowledge(packet, word_full)?;
         self.texts.drop_to(ack.number);
         if self.record.history().len() > before {
             tell_alone(&self.record, before, &mut self.seats, clock);
         }
-        Ok(LandedCount { count: landed })
+        Ok(LandedCount { count })
     }
 
     /// The primary stops: nothing else changes.
@@ -124,22 +96,6 @@ impl<P: Pair> Book<P> {
         Ok(())
     }
 
-    /// Why the backup's failure is refused.
-    fn fail_backup_refusal(&self) -> Option<Refusal>
-        ensures { result ≡ fail_backup_why self.now }
-    {
-        if let Some(why) = mode_refusal(self.record.mode(), Event::FailBackup) {
-            return Some(why);
-        }
-        if let Some(why) = self.record.fail_backup_refusal(&[]) {
-            return Some(why);
-        }
-        if self.is_word_full() {
-            return Some(Refusal::Exhausted);
-        }
-        None
-    }
-
     /// The backup stops, and the primary goes on alone: sealed epochs enter the history, and what is held lands. What was handed out to
     /// the runner stays with it. Answers what landed.
     ///
@@ -158,11 +114,12 @@ impl<P: Pair> Book<P> {
         ensures why { IfErr result (IsWhy (fail_backup_why self.old)) }
         ensures refused { OnErr result (self.new ≡ self.old) }
     {
-        if let Some(why) = self.fail_backup_refusal() {
+        if let Some(why) = mode_refusal(self.record.mode(), Event::FailBackup) {
             return Err(why);
         }
         self.record.keep();
-        let reply = self.record.fail_backup_within()?;
+        let word_full = self.is_word_full();
+        let reply = self.record.fail_backup_within(word_full)?;
         let Reply::Alone { landed, .. } = reply else {
             unreachable!();
         };

@@ -14,7 +14,7 @@ use Rattle.pair_history.specs.{Leaving.{LeaveInOrder, NotGivenUp, leaving, frame
 use Rattle.pair_history.specs.laws.Leaving.{out_of-append}
 use Rattle.pair_history.specs.laws.Drops.{asked-known, DropsAreKnown-append}
 use Rattle.frame_ports.specs.laws.Addresses.{targets_of-append}
-use Rattle.pair_history.proofs.LeavingLaws.{all_leave_in_order}
+use Rattle.pair_history.specs.laws.Leaving.{all_leave_in_order}
 use Rattle.pair_history.specs.laws.Leaving.{frames_left-append, leaving-append, none_leave, TakesNone}
 use Rattle.pair_record.specs.declared.event.Event.{Event}
 use Rattle.pair_core.specs.Acknowledged.{greater, acked_to, greatest_acked, IsOrdinary, AreOrdinary}
@@ -26,9 +26,10 @@ use Rattle.pair_core.specs.Pair.{Pair, shown_state, IsConsistent}
 use Rattle.pair_record.specs.Protocol.{Record, Outcome, refused, shown_at, outbox_of}
 use Rattle.pair_record.specs.{Record.start_record, Window.{NumberedFrom, IsWindow, first_after}}
 use Rattle.pair_core.specs.Replication.{Does, Leads}
-use Rattle.pair_record.proofs.AloneLaws.{frames_to-all}
+use Rattle.pair_record.specs.laws.Windows.{frames_to-all}
 use Rattle.pair_core.specs.Lines.{Lines}
-use Rattle.pair_core.proofs.{AlongLaws.along-keeps, Ends.{Ends, answers_end}, Tells.OfGuest}
+use Rattle.pair_core.specs.laws.Along.{along-keeps}
+use Rattle.pair_core.proofs.{Ends.{Ends, answers_end}, Tells.OfGuest}
 use Rattle.pair_record.specs.declared.event.Reply.TheVariants as replies
 use Rattle.failover.specs.Modes.{mode_filled}
 

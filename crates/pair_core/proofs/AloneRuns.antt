@@ -9,13 +9,13 @@ use Rattle.frame_ports.specs.{Addresses.targets_of, Limits.number_limit}
 use Rattle.pair_history.specs.{Entries.{Frame, Ran}, HistoryState.HistoryState, Landings.landings}
 use Rattle.pair_record.specs.{declared.event.Event.TheVariants.Step, Limits.{lone_step_entries, last_frame}}
 use Rattle.pair_record.specs.{Journal.{all_entries, with_history}, Modes.is_alone, Record.ports_landed, Tables.frames_run_out}
-use Rattle.pair_core.specs.{internal.Invariant.{Holds, KeepsNothing}, Nodes.{after_run, with_sent_off}}
+use Rattle.pair_core.specs.{Invariant.{Holds, KeepsNothing}, Nodes.{after_run, with_sent_off}}
 use Rattle.pair_record.specs.Protocol.{Record, Outcome, step_done, step_outcome, step_room}
 use Rattle.pair_record.specs.declared.event.Refusal.{Refusal}
 use Rattle.pair_core.specs.{Pair.Pair, Answering.{AnswersEvent, step_reply}, Lines.{Protocol, lines_after}}
 use Rattle.pair_core.specs.Runs.{StepsAnswer, goes_on, steps_outcome}
-use Rattle.pair_record.proofs.ModeLaws.{alone_not_stopped}
-use Rattle.pair_core.proofs.{AllLands.at_once_holds, Consistent.{live_is, alone_is}}
+use Rattle.pair_record.specs.laws.Modes.{alone_not_stopped}
+use Rattle.pair_core.specs.laws.{AllLands.at_once_holds, Consistent.{live_is, alone_is}}
 use Rattle.pair_core.proofs.StepRuns.{steps_stand, step_goes, no-steps-answered, more-answered, replicate-last, one-step-answered}
 use Rattle.pair_record.specs.declared.event.Reply.TheVariants as replies
 

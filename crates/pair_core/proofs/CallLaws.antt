@@ -11,7 +11,6 @@ use Rattle.pair_record.specs.declared.event.Event.TheVariants.{Deliver, Take, Lo
 use Rattle.pair_record.specs.declared.event.Refusal.TheVariants.{Full, BadFrame, NoClient, NoMemory, Exhausted}
 use Rattle.pair_record.specs.declared.event.Reply.{Reply}
 use Rattle.pair_core.specs.{Answering.{AnswersIn, MayWantMemory}, Calls.{Moment, AnswersCall, AnswersTake, AnswersDelivery, AnswersLoss}}
-use Rattle.pair_record.specs.Journal.{kept_entries}
 use Rattle.pair_record.specs.Protocol.{Record, Outcome, unless, or_else, first_refusal, exhausts, is_among, is_bad_length}
 use Rattle.pair_record.specs.Protocol.{Row, shown_at, live_at, take_done, deliver_done, delivery_refused, lost_in, lost_out, on_loss}
 use Rattle.pair_record.specs.Protocol.{loss_done, outcome}

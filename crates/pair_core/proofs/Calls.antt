@@ -5,7 +5,7 @@ use Rattle.memory_wanted.specs.declared.MemoryWanted.{MemoryWanted}
 use Rattle.frame_ports.specs.Ports.{PortsState}
 use Rattle.pair_record.specs.{declared.event.Reply.Reply, Protocol.{Record, Outcome, Row, first_refusal, Refuses, RefusesDelivery}, Record.RecordState}
 use Rattle.pair_record.specs.{declared.event.Refusal.Refusal, declared.event.Refusal.TheVariants.NoMemory}
-use Rattle.pair_core.specs.{internal.Invariant.Holds, Pair.Pair}
+use Rattle.pair_core.specs.{Invariant.Holds, Pair.Pair}
 
 -- on either result
 pub on_ok : {A : Type 0} (o : Result A MemoryWanted) (P : Type 0) → P → OnOk o P
@@ -30,13 +30,6 @@ pub named_delivery : (rows : List Row) (why : Refusal) → ((m : MemoryWanted) �
     → first_refusal rows ≡ Some why
 named_delivery rows (NoMemory m) other h = absurd (other m refl)
 named_delivery rows why other h = h
-
--- the invariant where record and ports are these
-pub moved_to : (w : Pair) (now r : Record) (q p : PortsState) → now ≡ r → q ≡ p
-    → Holds (record w { protocol = record w.protocol { state = r }; ports = p })
-    → Holds (record w { protocol = record w.protocol { state = now }; ports = q })
-moved_to w now r q p is ports h =
-    subst Holds (λ i. record w { protocol = record w.protocol { state = sym is i }; ports = sym ports i }) h
 
 -- it is answered and leaves what the protocol says
 pub answered_so : (o : Result Reply MemoryWanted) (r : Record) (done out : Outcome) → done ≡ out → IfOk o (λ reply. (reply, r) ≡ done)

@@ -21,7 +21,7 @@ use Rattle.pair_record.specs.Protocol.{Record, Outcome, allowed, outcome, or_els
 use Rattle.pair_record.specs.Protocol.{step_entries, cut_done, send_done, again_done, commit_done, backup_outcome, let_go, ack_done}
 use Rattle.pair_record.specs.Protocol.{ack_outcome, admit_first, admit_done, delivery_refused, deliver_done, take_done, on_loss, loss_done}
 use Rattle.pair_record.specs.Protocol.{fail_primary_done, all_held, fail_backup_done, live_entries, go_live_done, protect_done}
-use Rattle.pair_record.proofs.RecordLaws.{passed, generation_is}
+use Rattle.pair_record.specs.laws.Tables.{passed, same_generation}
 use Rattle.failover.specs.declared.change.Change.TheVariants as changes
 use Rattle.pair_history.specs.Entries as entries
 use Rattle.pair_record.specs.declared.event.Reply.TheVariants as replies
@@ -130,7 +130,7 @@ module _ (start : HistoryState) (r : Record) (l : Lines) where
             by_rows (AckGet k) (λ why. tt) _ _ (λ none. (
               landings boxes (let_go boxes r p.number),
               refl,
-              e.acknowledge k p is (generation_is p.generation r.generation (passed _ _ _ none).0),
+              e.acknowledge k p is (same_generation p.generation r.generation (passed _ _ _ none).0),
             ))
     allowed_end (Admit c) goes = by_rows (Admit c) (λ why. tt) _ _ (λ none. by_first (slice_get (inbox c) 0))
       where

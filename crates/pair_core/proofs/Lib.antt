@@ -1,17 +1,5 @@
-pub mod LineLaws
-pub mod AlongLaws
-pub mod NodesLaws
-pub mod CommitLaws
-pub mod KeptLaws
 pub mod Ends
 pub mod ModeRows
-pub mod Events
-pub mod ClientEvents
-pub mod OnTheirWay
-pub mod Consistent
-pub mod AllLands
-pub mod GoneLive
-pub mod Protected
 pub mod ReplicationLaws
 pub mod Generations
 pub mod ReplicationRuns

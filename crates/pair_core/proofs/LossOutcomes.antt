@@ -8,7 +8,7 @@ use Rattle.pair_record.specs.declared.event.Refusal.TheVariants.{NoClient}
 use Rattle.pair_record.specs.Protocol.{Outcome, lost_in, on_loss, on_lose_in, on_lose_out, sight, allowed, unless, first_refusal}
 use Rattle.pair_record.specs.Protocol.{is_among, entry_refusals, loss_refusals, loss_of}
 use Rattle.pair_record.specs.ClientActs.{if_there}
-use Rattle.pair_core.specs.{Answering.MayWantMemory, internal.Invariant.Holds, Pair.{Pair, live_state}}
+use Rattle.pair_core.specs.{Answering.MayWantMemory, Invariant.Holds, Pair.{Pair, live_state}}
 use Rattle.pair_core.proofs.Outcomes.{seen, goes, client_range, inbox_is}
 
 -- what it looks at

@@ -2,7 +2,7 @@
 use Rattle.std.proofs.Common.{◌≡◌, ℕ, List, [], ◌∷◌, refl, ap, ◌∙◌, inl, inr}
 use Rattle.pair_history.specs.{Entries.{Entry, DropIn, DropOut}, Failures.dropped_numbers, HistoryState.{HistoryState, after}}
 use Rattle.pair_history.specs.Landings.{DropsAtFull, DropsNone}
-use Rattle.pair_history.proofs.FailureLaws.{go_live_numbers}
+use Rattle.pair_history.specs.laws.GoingLive.{go_live_numbers}
 use Rattle.pair_record.specs.declared.event.Event.{Event}
 use Rattle.pair_record.specs.declared.event.Event.TheVariants.{Step, AckGet, LoseIn, LoseOut, FailBackup, GoLive}
 use Rattle.pair_record.specs.{declared.event.Reply.Reply, Journal.kept_entries, Protocol.{Record, shown_at}}

@@ -7,7 +7,7 @@ use Rattle.frame_ports.specs.{Lands.list_of, Limits.{inbox_frames, number_limit}
 use Rattle.pair_history.specs.{Entries.Frame, HistoryState.inbox_of}
 use Rattle.pair_record.specs.{declared.event.Event.TheVariants.{Cut, Admit, FailBackup}, declared.event.Refusal.Refusal}
 use Rattle.pair_record.specs.declared.event.Refusal.TheVariants.{Full, BadFrame, NoClient, Stopped, Exhausted}
-use Rattle.pair_core.specs.internal.Invariant.{Holds}
+use Rattle.pair_core.specs.Invariant.{Holds}
 use Rattle.pair_record.specs.Modes.{is_stopped}
 use Rattle.pair_core.specs.Pair.{Pair, shown_state, live_state, AfterRefusal}
 use Rattle.pair_record.specs.Protocol.{Record, Sight, Outcome, Row, first_refusal, or_else, unless, refused, exhausts, is_among, sight}
@@ -15,7 +15,7 @@ use Rattle.pair_record.specs.Protocol.{allowed, on_step, step_outcome, cut_refus
 use Rattle.pair_record.specs.Protocol.{arrival_refusals, admit_first, admit_done, on_admit, is_bad_length, deliver_refusals}
 use Rattle.pair_record.specs.{Protocol.{delivery_refused, deliver_done, on_deliver}, Record.owed_to}
 use Rattle.pair_core.specs.Answering.{MayWantMemory}
-use Rattle.pair_core.proofs.Consistent.{live_is, live_waiting, outbox_is}
+use Rattle.pair_core.specs.laws.Consistent.{live_is, live_waiting, outbox_is}
 use Rattle.pair_record.specs.declared.event.Reply.TheVariants as replies
 
 -- a table decides

@@ -10,7 +10,7 @@ use Rattle.pair_history.specs.Entries.{Frame, Entry, Ran, Arrive, DropOut, Took,
 use Rattle.pair_history.specs.{HistoryState.HistoryState, Landings.{DropsAtFull, DropsNone}}
 use Rattle.pair_history.specs.Leaving.{LeaveInOrder, NotGivenUp, leaves_by, frames_left}
 use Rattle.pair_history.specs.Moves.{Move, Steps, Arrives, entries_of}
-use Rattle.pair_history.proofs.FailureLaws.{go_live_leaves}
+use Rattle.pair_history.specs.laws.GoingLive.{go_live_leaves}
 use Rattle.pair_history.specs.laws.Leaving.{TakesNone, none_leave}
 use Rattle.pair_history.specs.laws.Moves.{DropsNone-moves}
 use Rattle.pair_record.specs.{declared.event.Event.Event, declared.event.Event.TheVariants.{Step, FailBackup}}
@@ -18,13 +18,13 @@ use Rattle.pair_record.specs.declared.event.Refusal.{Refusal}
 use Rattle.pair_record.specs.{declared.event.Refusal.TheVariants.NoMemory, declared.event.Reply.Reply}
 use Rattle.pair_core.specs.Answering.{AnswersEvent, MayWantMemory}
 use Rattle.pair_record.specs.{Journal.{first_of, kept_entries}, Modes.is_alone}
-use Rattle.pair_core.specs.{Drops.{DropsOnly, LetsOut, Drops}, internal.Invariant.Holds}
+use Rattle.pair_core.specs.{Drops.{DropsOnly, LetsOut, Drops}, Invariant.Holds}
 use Rattle.pair_record.specs.{Protocol.{outcome, step_entries}, Record.IsRecord}
 use Rattle.pair_core.specs.Pair.{Pair, shown_state, live_state}
-use Rattle.pair_record.proofs.LoneAccords.{step_drops, failure_drops}
-use Rattle.pair_record.proofs.{ClientAccords.{ack_lands, ack_leaves}, LiveAccords.{all_clients, all_fit}}
+use Rattle.pair_record.specs.laws.Alone.{step_drops, failure_drops}
+use Rattle.pair_record.specs.laws.{Clients.{ack_lands, ack_leaves}, Live.{all_clients, all_fit}}
 use Rattle.pair_core.proofs.Ends.{Ends, answers_end, at_once}
-use Rattle.pair_core.proofs.LineLaws.{below_at}
+use Rattle.pair_core.specs.laws.Lines.{below_at}
 use Rattle.pair_core.specs.Lines.{Protocol, got, lines_after}
 use Rattle.std.proofs.lemmas.Option.{slice_get_within}
 use Rattle.pair_record.specs.declared.event.Reply.TheVariants as replies

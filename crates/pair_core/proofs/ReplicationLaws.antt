@@ -18,7 +18,7 @@ use Rattle.pair_core.specs.Pair.{Pair, HasBackup, ImageFollows, InMode, shown_st
 use Rattle.pair_record.specs.Record.{IsRecord, SuitsMode}
 use Rattle.pair_core.specs.Replication.{guests_of, to_come, number_after, next_number, NodesCut, IsCommit, IsProtected, Replicates}
 use Rattle.pair_core.specs.Texts.{IsText, AreTexts}
-use Rattle.pair_core.proofs.NodesLaws.{reads-as}
+use Rattle.pair_core.specs.laws.Nodes.{reads-as}
 use Rattle.failover.specs.Modes.{mode_filled}
 
 -- the guests at the ends of epochs

@@ -16,7 +16,7 @@ use Rattle.pair_record.specs.Protocol.{go_live_done, Record, Outcome, refused, f
 use Rattle.pair_record.specs.Protocol.{go_live_refusals}
 use Rattle.pair_core.specs.{Answering.AnswersIn, Lines.{Lines, Protocol, got}}
 use Rattle.pair_core.specs.Service.{moment, Resumes, Enters, Tells, Serves, guest_entries}
-use Rattle.pair_core.proofs.Consistent.{lone}
+use Rattle.pair_core.specs.laws.Consistent.{lone}
 use Rattle.pair_core.proofs.{CallLaws.answers_call, EntersLaws.enters_all, Ends.{by_table, answers_end}}
 use Rattle.pair_core.proofs.Tells.{OfGuest, live_all, tells_all}
 use Rattle.pair_record.specs.declared.event.Reply.TheVariants as replies

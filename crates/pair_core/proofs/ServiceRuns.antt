@@ -7,7 +7,8 @@ use Rattle.pair_record.specs.{declared.event.Event.Event, declared.event.Event.T
 use Rattle.pair_core.specs.Calls.{Moment, ahead_of}
 use Rattle.pair_record.specs.{declared.event.Refusal.TheVariants.Full, declared.event.Reply.Reply}
 use Rattle.pair_core.specs.Service.{Serves, HasServed, LetsIn, HasEntered, IsDelivery, Point, IsTold, IsResumed}
-use Rattle.pair_core.proofs.{AlongLaws.{along-keeps, along-tells}, PublicLaws.Begins-trans}
+use Rattle.pair_core.specs.laws.Along.{along-keeps, along-tells}
+use Rattle.pair_core.proofs.PublicLaws.{Begins-trans}
 use Rattle.pair_record.specs.declared.event.Reply.TheVariants as replies
 
 -- the history only grows

@@ -10,18 +10,18 @@ use Rattle.pair_history.specs.{Entries.{Frame, Ran}, HistoryState.HistoryState}
 use Rattle.pair_history.specs.Moves.{Steps, guest_along, frames_along}
 use Rattle.pair_record.specs.{declared.event.Refusal.Refusal, declared.event.Refusal.TheVariants.{Stopped, CutNeeded, Exhausted}}
 use Rattle.pair_record.specs.{Journal.{all_entries, with_running, with_moves}, Limits.lone_step_entries}
-use Rattle.pair_core.specs.internal.Invariant.{Holds, HoldsAmid}
+use Rattle.pair_core.specs.Invariant.{Holds, HoldsAmid}
 use Rattle.pair_record.specs.Modes.{is_stopped, is_alone}
 use Rattle.pair_core.specs.{Nodes.after_run, Pair.Pair}
 use Rattle.pair_record.specs.Protocol.{step_outcome, outbox_of, step_room, step_entries, Record, Outcome, first_refusal, or_else, refused}
 use Rattle.pair_record.specs.{GuestActs.frame_after_step, Protocol.{shown_at, live_at, step_refusals, step_done}, Tables.frames_run_out}
 use Rattle.pair_core.specs.Answering.{step_reply}
 use Rattle.pair_core.specs.Runs.{goes_on, steps_outcome, with_steps}
-use Rattle.pair_record.proofs.AccordLaws.{left_now}
-use Rattle.pair_core.proofs.{Consistent.live_is, Events.{moves_stand, two_hold}, NodesLaws.{shape-after_steps, base-after_run}}
+use Rattle.pair_record.specs.Accords.{left_now}
+use Rattle.pair_core.specs.laws.{Consistent.live_is, Events.{moves_stand, two_hold}, Nodes.{shape-after_steps, base-after_run}}
 use Rattle.pair_record.specs.Joined.{length-all}
-use Rattle.pair_record.proofs.WindowLaws.{test_below}
-use Rattle.pair_record.proofs.EpochLaws.{entries-steps, can-steps, left-steps}
+use Rattle.std.proofs.lemmas.Bool.{lt-leb}
+use Rattle.pair_history.specs.laws.Moves.{entries-steps, can-steps, left-steps}
 use Rattle.pair_core.proofs.Outcomes.{goes, step_sight}
 use Rattle.pair_record.specs.declared.event.Reply.TheVariants as replies
 
@@ -106,7 +106,7 @@ none_applies : (r : Record) (outbox : List Frame) → is_stopped r.mode ≡ fals
     → first_refusal (step_refusals outbox r) ≡ None
 none_applies r outbox runs few room numbers =
     λ i. cond (runs i) (Some Stopped) (cond (le-ltb 192 (length outbox) few i) (Some CutNeeded)
-    (cond (test_below number_limit (length (all_entries r.journal) + step_room r.mode) room i)
+    (cond (lt-leb number_limit (length (all_entries r.journal) + step_room r.mode) room i)
     (Some Exhausted) (cond (numbers i) (Some Exhausted) None)))
 
 pub step_goes : (w : Pair) → Holds w → is_stopped w.protocol.state.mode ≡ false → length w.nodes.live.outbox ≤ 192

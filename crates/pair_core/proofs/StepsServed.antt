@@ -21,8 +21,9 @@ use Rattle.pair_core.specs.Pair.{Pair, IsConsistent}
 use Rattle.pair_record.specs.Protocol.{Record, Outcome, first_refusal, refused, shown_at, live_at, step_refusals, outbox_of, step_entries}
 use Rattle.pair_record.specs.{GuestActs.frame_after_step, Protocol.{step_done, step_outcome}}
 use Rattle.pair_core.specs.{Runs.{StepsAnswerIn, goes_on, steps_outcome}, Service.{moment, Serves, HasServed, is_step, ServesSteps}}
-use Rattle.pair_core.proofs.Consistent.{lone}
-use Rattle.pair_core.proofs.{AlongLaws.along-more, Ends.by_table, ServiceLaws.serves_at}
+use Rattle.pair_core.specs.laws.Consistent.{lone}
+use Rattle.pair_core.specs.laws.Along.{along-more}
+use Rattle.pair_core.proofs.{Ends.by_table, ServiceLaws.serves_at}
 use Rattle.pair_core.proofs.{StepRuns.{no-steps-answered, more-answered, refused_stays}, Tells.OfGuest}
 use Rattle.pair_record.specs.declared.event.Reply.TheVariants as replies
 

@@ -1,4 +1,6 @@
 pub mod internal
+pub mod laws
+pub mod Invariant
 pub mod Kept
 pub mod Leaves
 pub mod Lines

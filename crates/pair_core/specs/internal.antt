@@ -1,5 +1,4 @@
 -- what only models, private functions and proofs cite
-pub mod Invariant
 pub mod LinesFields
 pub mod NodesFields
 pub mod WorldFields

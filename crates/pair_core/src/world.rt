@@ -384,9 +384,19 @@ impl World {
             return Ok(Reply::Lost);
         };
         self.record.keep();
-        if let Some(why) = self.record.ack_refusal(packet) {
+        let why = match self.record.acknowledge(packet, WORD_FULL) {
+            Ok(landed) => {
+                return Ok(Reply::Acked {
+                    generation: packet.generation,
+                    number: packet.number,
+                    landed,
+                });
+            }
+            Err(why) => why,
+        };
+        let Refusal::NoMemory(wanted) = why else {
             return Ok(Reply::Refused(why));
-        }
-        self.record.acknowledge(packet)
+        };
+        Err(wanted)
     }
 }

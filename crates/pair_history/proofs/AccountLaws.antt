@@ -16,7 +16,7 @@ use Rattle.pair_history.specs.Released.{frames_for, Sent, sent_at, frames, Effec
 use Rattle.pair_history.specs.Released.{effect_on, Account, booked, goes_on, WasSent, IsSound, sent_for, landed_by, taken_by}
 use Rattle.pair_history.specs.Released.{is_drop, IsFresh, empty_account, account, released, taken, dropped_count}
 use Rattle.pair_history.specs.laws.Leaving.{out_of-append}
-use Rattle.pair_history.proofs.ClientLists.{out_of-without, list_of-with}
+use Rattle.pair_history.specs.laws.ClientLists.{out_of-without, list_of-with}
 use Rattle.pair_history.proofs.Parts.{part-trans, part-append, part-remove}
 
 -- Soundness: each entry keeps it.

@@ -1,29 +1,19 @@
 -- Laws of why a frame for a client is dropped: by a loss that was asked for, or at a full box. No failure drops one for another reason.
-use Rattle.std.proofs.Common.{◌≡◌, ℕ, ◌-◌, ◌⊎◌, inl, inr, List, [], ◌∷◌, ◌++◌, length, map, take, drop, refl, sym, ap, ◌∙◌}
-use Rattle.std.proofs.Common.{Bool, true, false, cond, subst}
-use Rattle.std.specs.Prelude.{◌==◌, nat_lt, All}
-use Rattle.std.specs.List.{filter}
-use Rattle.std.proofs.lemmas.Bool.{lt-ltb, eqb-true}
-use Rattle.std.proofs.lemmas.List.{append-nil}
-use Rattle.std.proofs.lemmas.List.Elements.{All-nil, All-cons, All-append, filter-append}
+use Rattle.std.proofs.Common.{◌≡◌, ℕ, ◌-◌, ◌⊎◌, inl, inr, List, [], ◌∷◌, ◌++◌, length, map, take, drop, refl, sym, ap, ◌∙◌, Bool, true}
+use Rattle.std.proofs.{Common.{false, cond, subst}, lemmas.Bool.{lt-ltb, eqb-true}, lemmas.List.append-nil, lemmas.List.Elements.All-nil}
+use Rattle.std.proofs.lemmas.List.Elements.{All-cons, All-append, filter-append}
+use Rattle.std.specs.{Prelude.{◌==◌, nat_lt, All}, List.filter}
 use Rattle.frame_ports.specs.{Lands.list_of, Limits.box_frames}
-use Rattle.pair_history.specs.Entries.{Frame, Entry, Ran, DropIn, Land, DropOut}
-use Rattle.pair_history.specs.HistoryState.{HistoryState, at, after, Legal, out_of}
-use Rattle.pair_history.specs.Landings.{IsAtFull, IsInBox, DropsAreAskedOrFull, BoxesFit}
-use Rattle.pair_history.specs.Order.{AreGuests}
-use Rattle.pair_history.specs.Reached.{AllClients, IsReached}
-use Rattle.pair_history.specs.Failures.{arrived_numbers, rising, drops_of_taken_in, all_land, go_live_entries, fail_backup_entries}
-use Rattle.pair_history.specs.Failures.{alone_step_entries}
-use Rattle.pair_history.specs.Leaving.{Way, Landed, AtFull, GivenUp, drop_way, in_way, is_given_up, NotGivenUp, leaves_by, leaving}
-use Rattle.pair_history.specs.Leaving.{frames_left, has_landed, frames_landed}
-use Rattle.pair_history.specs.Released.{sent_to, landed_by, released, IsFresh}
-use Rattle.pair_history.specs.laws.Landings.{landings-land}
-use Rattle.pair_history.proofs.LeavingLaws.{all_leave_in_order}
-use Rattle.pair_history.specs.laws.Leaving.{frames_left-append}
-use Rattle.pair_history.proofs.ReachedLaws.{reached}
-use Rattle.pair_history.specs.Waits.{without_numbers}
-use Rattle.pair_history.proofs.TakenInLaws.{at-drops_in}
+use Rattle.pair_history.specs.{Entries.{Frame, Entry, Ran, DropIn, Land, DropOut}, HistoryState.{HistoryState, at, after, Legal, out_of}}
+use Rattle.pair_history.specs.{Landings.{IsAtFull, IsInBox, DropsAreAskedOrFull, BoxesFit}, Order.AreGuests, Reached.AllClients}
+use Rattle.pair_history.specs.{Reached.IsReached, Failures.{arrived_numbers, rising, drops_of_taken_in, all_land, go_live_entries}}
+use Rattle.pair_history.specs.{Failures.{fail_backup_entries, alone_step_entries}, Leaving.{Way, Landed, AtFull, GivenUp, drop_way}}
+use Rattle.pair_history.specs.Leaving.{in_way, is_given_up, NotGivenUp, leaves_by, leaving, frames_left, has_landed, frames_landed}
+use Rattle.pair_history.specs.{Released.{sent_to, landed_by, released, IsFresh}, Waits.without_numbers}
+use Rattle.pair_history.specs.laws.{Landings.landings-land, Leaving.{all_leave_in_order, frames_left-append}, TakenIn.at-drops_in}
 use Rattle.pair_history.specs.laws.Drops.{DropsAreAskedOrFull-append, at_full-asked, asked-known, DropsAreAskedOrFull-guests}
+use Rattle.pair_history.specs.laws.GoingLive.{lands-asked}
+use Rattle.pair_history.proofs.ReachedLaws.{reached}
 
 -- Of lists of entries.
 
@@ -33,25 +23,10 @@ asked-each s [] later c place p = p.0
 asked-each s (DropOut d k ∷ before) later c place p = asked-each (after s (DropOut d k)) before later c place p.1
 asked-each s (other ∷ before) later c place p = asked-each (after s other) before later c place p
 
-drops_in-asked : (s : HistoryState) (ns : List ℕ) → DropsAreAskedOrFull s (map DropIn ns)
-drops_in-asked s [] = tt
-drops_in-asked s (n ∷ ns) = drops_in-asked (after s (DropIn n)) ns
-
 -- Of what lands, and of what failures add.
-
-pub lands-asked : (s : HistoryState) → AllClients (length s.boxes) s.out → BoxesFit s.boxes → DropsAreAskedOrFull s (all_land s)
-lands-asked s clients fit = at_full-asked s (all_land s) (landings-land s s.out [] (sym (append-nil s.out)) clients fit).2
 
 pub all_land-asked : (s : HistoryState) → IsReached s → DropsAreAskedOrFull s (all_land s)
 all_land-asked s h = lands-asked s h.clients h.fit
-
-pub go_live-asked : (s : HistoryState) (kept : List Entry) → AllClients (length s.boxes) s.out → BoxesFit s.boxes
-    → DropsAreAskedOrFull s (go_live_entries s kept)
-go_live-asked s kept clients fit =
-    let ns = rising (arrived_numbers kept) in
-    let t : HistoryState = record s { waiting = without_numbers ns s.waiting } in
-    DropsAreAskedOrFull-append s (drops_of_taken_in kept) (all_land s) (drops_in-asked s ns)
-    (subst (λ v. DropsAreAskedOrFull v (all_land s)) (sym (at-drops_in s ns)) (lands-asked t clients fit))
 
 pub fail_backup-asked : (s : HistoryState) (kept : List Entry) → IsReached s → AreGuests kept → Legal s kept
     → DropsAreAskedOrFull s (fail_backup_entries s kept)

@@ -1,46 +1,23 @@
 -- What failures add to a history is legal; the state that it leads to, and what leaves for each client.
-use Rattle.std.proofs.Common.{◌≡◌, ℕ, ◌+◌, ◌-◌, ◌*◌, ◌≤◌, List, [], ◌∷◌, ◌++◌, length, map}
-use Rattle.std.proofs.Common.{refl, sym, ap, ◌∙◌, arith, mul-le-mul_right, Bool, true, false, cond}
-use Rattle.std.specs.Prelude.{◌==◌, nat_lt}
-use Rattle.std.proofs.lemmas.List.{append-nil, length-append, length-map}
+use Rattle.std.proofs.Common.{◌≡◌, ℕ, ◌+◌, ◌-◌, ◌*◌, ◌≤◌, List, [], ◌∷◌, ◌++◌, length, map, refl, sym, ap, ◌∙◌, arith, mul-le-mul_right}
+use Rattle.std.proofs.{Common.{Bool, true, false, cond}, lemmas.List.{append-nil, length-append, length-map}}
 use Rattle.std.proofs.lemmas.List.Sorted.{length_permutation}
+use Rattle.std.specs.Prelude.{◌==◌, nat_lt}
 use Rattle.guest_machine.specs.Step.{next, sent}
-use Rattle.frame_ports.specs.Addresses.{targets_of}
+use Rattle.frame_ports.specs.{Addresses.targets_of, Lands.{list_of, has_room, landed_at, lands}, Limits.box_frames}
 use Rattle.frame_ports.specs.laws.Addresses.{length-targets_of}
-use Rattle.frame_ports.specs.Lands.{list_of, has_room, landed_at, lands}
-use Rattle.frame_ports.specs.Limits.{box_frames}
-use Rattle.pair_history.specs.Entries.{Frame, Entry, Ran, Arrive, DropIn, Land, DropOut}
-use Rattle.pair_history.specs.HistoryState.{HistoryState, at, after, Legal}
-use Rattle.pair_history.specs.Landings.{landings, BoxesFit}
-use Rattle.pair_history.specs.Leaving.{leaving, LeaveInOrder}
-use Rattle.pair_history.specs.Order.{AreGuests}
-use Rattle.pair_history.specs.Reached.{AllClients, IsReached}
-use Rattle.pair_history.specs.Released.{Lands, DropsBoxed, DropsOnWay, Nothing, effect_on, Account, empty_account, booked, goes_on, account}
-use Rattle.pair_history.specs.Failures.{arrived_numbers, rising, drops_of_taken_in}
+use Rattle.pair_history.specs.{Entries.{Frame, Entry, Ran, Arrive, DropIn, Land, DropOut}, HistoryState.{HistoryState, at, after, Legal}}
+use Rattle.pair_history.specs.{Landings.{landings, BoxesFit}, Leaving.{leaving, LeaveInOrder}, Order.AreGuests, Reached.AllClients}
+use Rattle.pair_history.specs.{Reached.IsReached, Released.{Lands, DropsBoxed, DropsOnWay, Nothing, effect_on, Account, empty_account}}
+use Rattle.pair_history.specs.{Released.{booked, goes_on, account}, Failures.{arrived_numbers, rising, drops_of_taken_in}}
 use Rattle.pair_history.specs.Failures.{go_live_entries, all_land, fail_backup_entries, alone_step_entries, dropped_numbers}
-use Rattle.pair_history.specs.laws.Histories.{at-append, Legal-append}
-use Rattle.pair_history.specs.laws.Landings.{landings-land}
-use Rattle.pair_history.proofs.LeavingLaws.{landings-leave}
-use Rattle.pair_history.proofs.AccountLaws.{account-append}
-use Rattle.pair_history.proofs.ReachedLaws.{reached}
 use Rattle.pair_history.specs.Waits.{without_numbers}
-use Rattle.pair_history.proofs.TakenInLaws.{taken_in_dropped, at-drops_in, kept_boxes}
-use Rattle.pair_history.proofs.TakenInLaws.{taken_in_rises}
-use Rattle.pair_history.specs.laws.Sorted.{IsPermutation-rising}
-use Rattle.pair_history.specs.laws.Landings.{length-landings}
+use Rattle.pair_history.specs.laws.{Histories.{at-append, Legal-append}, Landings.{landings-land, length-landings}}
+use Rattle.pair_history.specs.laws.{Leaving.landings-leave, TakenIn.{taken_in_dropped, at-drops_in, kept_boxes, taken_in_rises}}
+use Rattle.pair_history.specs.laws.{Sorted.IsPermutation-rising, GoingLive.{goes_live, go_live_leaves, go_live_numbers}}
+use Rattle.pair_history.proofs.{AccountLaws.account-append, ReachedLaws.reached}
 
 -- The backup goes live.
-
-abbrev pub live_state : HistoryState → List Entry → HistoryState
-live_state s kept = record s { waiting = (at s kept).waiting; out = []; boxes = lands s.boxes s.out }
-
-pub goes_live : (s : HistoryState) (kept : List Entry) → AllClients (length s.boxes) s.out → BoxesFit s.boxes → AreGuests kept
-    → Legal s kept → Legal s (go_live_entries s kept) × (at s (go_live_entries s kept) ≡ live_state s kept)
-goes_live s kept clients fit k legal =
-    let ins = taken_in_dropped s kept k legal in
-    let land = landings-land (record s { waiting = (at s kept).waiting }) s.out [] (sym (append-nil s.out)) clients fit in
-    let es = drops_of_taken_in kept in
-    (Legal-append s es (all_land s) ins.0 (rw ins.1 land.0), at-append s es (all_land s) ∙ rw ins.1 land.1)
 
 pub go_live_count : (s : HistoryState) (kept : List Entry)
     → length (go_live_entries s kept) ≡ length (arrived_numbers kept) + length s.out
@@ -49,44 +26,11 @@ go_live_count s kept =
     let same = length_permutation ns (rising ns) (IsPermutation-rising ns) in
     rw (length-append, length-map) (omega (arith, length-landings s.boxes s.out))
 
--- what is owed leaves in order, and none of it is given up
-
-drops_in-leave : (c : ℕ) (s : HistoryState) (ns : List ℕ) (es : List Entry)
-    → leaving s (map DropIn ns ++ es) c ≡ leaving (at s (map DropIn ns)) es c
-drops_in-leave c s [] es = refl
-drops_in-leave c s (n ∷ ns) es = drops_in-leave c (after s (DropIn n)) ns es
-
-pub go_live_leaves : (s : HistoryState) (kept : List Entry) → AllClients (length s.boxes) s.out → BoxesFit s.boxes
-    → LeaveInOrder s (go_live_entries s kept) s.out
-go_live_leaves s kept clients fit c =
-    let ns = rising (arrived_numbers kept) in
-    let t : HistoryState = record s { waiting = without_numbers ns s.waiting } in
-    rw (drops_in-leave c s ns (all_land s), at-drops_in s ns) (landings-leave t s.out [] (sym (append-nil s.out)) clients fit c)
-
 -- two clients, the first of whom has a full box, and a frame on its way to the first between two to the second
 pub two_clients : (s : HistoryState) (b : List Frame) (f g h : Frame) → length b ≡ box_frames → s.boxes ≡ b ∷ [] ∷ []
     → s.out ≡ (2, f) ∷ (1, g) ∷ (2, h) ∷ []
     → go_live_entries s (Ran ∷ Arrive 5 ∷ Ran ∷ Arrive 3 ∷ []) ≡ DropIn 3 ∷ DropIn 5 ∷ Land 2 ∷ DropOut 1 256 ∷ Land 2 ∷ []
 two_clients s b f g h full boxes out = rw (boxes, out, full) refl
-
--- which frames are dropped before they arrive
-
-landed_numbers : (boxes : List (List Frame)) (ps : List (ℕ × Frame)) → dropped_numbers (landings boxes ps) ≡ []
-landed_numbers boxes [] = refl
-landed_numbers boxes (p ∷ ps) = by_room (has_room boxes p.0) (landed_numbers (landed_at boxes p.0 p.1) ps)
-  where
-    by_room : (t : Bool) → dropped_numbers (landings (landed_at boxes p.0 p.1) ps) ≡ []
-        → dropped_numbers (cond t (Land p.0) (DropOut p.0 box_frames) ∷ landings (landed_at boxes p.0 p.1) ps) ≡ []
-    by_room true none = none
-    by_room false none = none
-
-dropped_numbers-in : (ns : List ℕ) (es : List Entry) → dropped_numbers (map DropIn ns ++ es) ≡ ns ++ dropped_numbers es
-dropped_numbers-in [] es = refl
-dropped_numbers-in (n ∷ ns) es = ap (λ ms. n ∷ ms) (dropped_numbers-in ns es)
-
-pub go_live_numbers : (s : HistoryState) (kept : List Entry) → dropped_numbers (go_live_entries s kept) ≡ rising (arrived_numbers kept)
-go_live_numbers s kept =
-    rw (dropped_numbers-in, landed_numbers s.boxes s.out) (append-nil (rising (arrived_numbers kept)))
 
 -- What was sent to a client and what it took stay in its account.
 

@@ -1,12 +1,9 @@
 pub mod ReachedLaws
-pub mod TakenInLaws
 pub mod FateLaws
 pub mod AddressedLaws
 pub mod FailureLaws
 pub mod Parts
-pub mod ClientLists
 pub mod AccountLaws
 pub mod OrderLaws
 pub mod LogLaws
-pub mod LeavingLaws
 pub mod DropLaws

@@ -8,3 +8,6 @@ pub mod Waits
 pub mod Landings
 pub mod Leaving
 pub mod Sorted
+pub mod ClientLists
+pub mod TakenIn
+pub mod GoingLive

@@ -51,7 +51,7 @@ pub fn client_entries_go_first()
 
 /// What leaves for a client leaves in the order in which the guest sent it: what was sent to a client along a history is what left, and
 /// then what is still on its way. Each frame that left landed, or was dropped at a full box, or was given up.
-#[tactic(auto, using(crate::proofs::LeavingLaws::all_leave_in_order))]
+#[tactic(auto, using(crate::specs::laws::Leaving::all_leave_in_order))]
 pub fn frames_leave_in_order()
     ensures { (s : HistoryState) (es : List Entry) (c : ℕ) → IsFresh s → DropsAreKnown s es
         → sent_to s es c ≡ frames_left (leaving s es c) ++ out_of c (at s es).out }

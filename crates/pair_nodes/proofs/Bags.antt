@@ -6,7 +6,7 @@ use Rattle.pair_record.specs.declared.event.Packet.{Packet}
 use Rattle.failover.specs.declared.mode.{Mode.Mode, Mode.TheVariants.{Paired, Filling, Alone, Stopped}}
 use Rattle.pair_record.specs.{Modes.is_alone, Record.SuitsMode}
 use Rattle.pair_core.specs.{Lines.{AreBelow, packet}, Pair.{Pair, InMode}, Replication.{next_number, number_after}}
-use Rattle.pair_core.proofs.Consistent.{in_mode}
+use Rattle.pair_core.specs.laws.Consistent.{in_mode}
 use Rattle.pair_nodes.specs.Matching.{Kept, IsNumbered, AreNumberedFrom, WasSent, WasAcknowledged, Fits, HasRoom, Matches, IsServed, site_of}
 use Rattle.pair_nodes.specs.Networks.{Output}
 use Rattle.pair_nodes.specs.Runs.{Premises, adds, calls_by}

@@ -1,5 +1,5 @@
 -- What clients and their network do is what they do at the pair.
-use Rattle.std.proofs.Common.{◌≡◌, ℕ, ◌+◌, ◌-◌, ◌<◌, ◌≤◌, List, [], ◌∷◌, length, drop, remove, refl, sym, ap, ◌∙◌, subst, arith, true, false, inl}
+use Rattle.std.proofs.Common.{◌≡◌, ℕ, zero, suc, ◌+◌, ◌-◌, ◌<◌, ◌≤◌, List, [], ◌∷◌, length, drop, remove, refl, sym, ap, ◌∙◌, subst, arith, true, false, inl}
 use Rattle.std.proofs.{Common.{None, Some, Option, Bool, cond, Bor}, lemmas.{Bool.Decides.nat_tests, List.length-set}}
 use Rattle.std.specs.Prelude.{slice_get, nat_le, not, option_map}
 use Rattle.frame_ports.specs.{Addresses.IsFrame, Lands.list_of, Limits.{inbox_frames, number_limit}, Ports.{PortsState, after_delivery}}
@@ -14,11 +14,11 @@ use Rattle.pair_record.specs.Record.{ports_after_lose_in, ports_after_lose_out}
 use Rattle.pair_record.specs.Protocol.{Record, Outcome, first_refusal, admit_done, take_done, loss_done, arrival_refusals, admit_refusals}
 use Rattle.pair_record.specs.Protocol.{take_refusals, loss_refusals, loss_of, lost_in, lost_out, is_among, outcome}
 use Rattle.pair_record.specs.Protocol.{deliver_done, deliver_refusals, delivery_refused, is_bad_length, unless}
-use Rattle.pair_record.proofs.WindowLaws.{test_below, test_from}
-use Rattle.pair_record.proofs.ClientLaws.{some_at}
+use Rattle.std.proofs.lemmas.Bool.{lt-leb, le-leb}
 use Rattle.pair_record.specs.ClientActs.{if_there}
-use Rattle.pair_core.specs.{internal.Invariant.Holds, Lines.{got, lines_after}, Nodes.with_arrival, Pair.Pair}
-use Rattle.pair_core.proofs.{AllLands.admitted_holds, ClientEvents.{take_holds, lose_in_holds, lose_out_holds, deliver_holds, full_holds}}
+use Rattle.pair_core.specs.{Invariant.Holds, Lines.{got, lines_after}, Nodes.with_arrival, Pair.Pair}
+use Rattle.pair_core.specs.laws.{AllLands.admitted_holds, ClientEvents.{take_holds, lose_in_holds, lose_out_holds, deliver_holds}}
+use Rattle.pair_core.specs.laws.ClientEvents.{full_holds}
 use Rattle.pair_core.proofs.{LossOutcomes.{lose_in_sight, lose_out_sight, loss_goes}, Outcomes.{admit_goes, goes, deliver_goes, deliver_stops}}
 use Rattle.pair_nodes.specs.Matching.{Fits, HasRoom, Kept, Matches, IsServed, network_of, site_of}
 use Rattle.pair_history.specs.HistoryState.{HistoryState, sent_along}
@@ -29,6 +29,12 @@ use Rattle.pair_nodes.specs.Sites.{Site, Happens, comes, takes, loses_in, loses_
 use Rattle.std.proofs.Common.{◌++◌}
 use Rattle.pair_nodes.proofs.Counts.{history_counts, moves_counts}
 use Rattle.pair_nodes.proofs.{Bags.{at_site, matches_so, sent_on}, PairEvents.{in_mode, one_event}}
+
+-- what stands at a place where there is something
+some_at : {A : Type 0} (xs : List A) (place : ℕ) → place < length xs → (x : A) × (slice_get xs place ≡ Some x)
+some_at [] place l = absurd (omega arith)
+some_at (x ∷ xs) zero l = (x, refl)
+some_at (x ∷ xs) (suc place) l = some_at xs place (omega arith)
 
 -- a client's number
 among : (c count : ℕ) → 1 ≤ c → c ≤ count → not (is_among c count) ≡ false
@@ -118,7 +124,7 @@ module _ (w : Pair) (kept texts : List (List ℕ)) (acks : List Packet) (out : O
   r = w.protocol.state
 
   full : nat_le number_limit (length (all_entries w.protocol.state.journal) + 1) ≡ false
-  full = test_below number_limit _ room
+  full = lt-leb number_limit _ room
 
   client : not (is_among c (length w.ports.boxes)) ≡ false
   client = among c (length w.ports.boxes) low high
@@ -189,7 +195,7 @@ module _ (w : Pair) (kept texts : List (List ℕ)) (acks : List Packet) (out : O
         let inbox = list_of w.ports.inboxes c in
         let row : first_refusal (deliver_refusals false (length w.ports.boxes) inbox w.ports.next r c bytes) ≡ None =
         λ i. cond (client i) (Some NoClient) (cond (good i) (Some BadFrame) (cond (full i) (Some Exhausted)
-        (cond (test_below inbox_frames (length inbox) few i) (Some Full) (cond (test_below number_limit w.ports.next last i) (Some Exhausted) None)))) in
+        (cond (lt-leb inbox_frames (length inbox) few i) (Some Full) (cond (lt-leb number_limit w.ports.next last i) (Some Exhausted) None)))) in
         told_served w kept texts acks out came h (Delivered c f w.ports.next ∷ []) (after_delivery w.ports c bytes) (λ s. refl) refl refl
         (deliver_holds w h.pair.holds c low high bytes frame) (Deliver c given) done.0
         (in_mode w (Deliver c given) None done refl (deliver_goes w h.pair.holds c bytes row))
@@ -202,7 +208,7 @@ module _ (w : Pair) (kept texts : List (List ℕ)) (acks : List Packet) (out : O
         let inbox = list_of w.ports.inboxes c in
         let row : first_refusal (deliver_refusals false (length w.ports.boxes) inbox w.ports.next r c bytes) ≡ Some Full =
         λ i. cond (client i) (Some NoClient) (cond (good i) (Some BadFrame) (cond (full i) (Some Exhausted)
-        (cond (test_from inbox_frames (length inbox) many i) (Some Full) (cond (nat_le number_limit w.ports.next) (Some Exhausted) None)))) in
+        (cond (le-leb inbox_frames (length inbox) many i) (Some Full) (cond (nat_le number_limit w.ports.next) (Some Exhausted) None)))) in
         told_served w kept texts acks out came h (entries.Refused c f ∷ []) w.ports (λ s. refl) refl refl
         (full_holds w h.pair.holds c low high bytes frame many) (Deliver c given) done.0
         (in_mode w (Deliver c given) None done refl (deliver_stops w h.pair.holds c bytes Full row))
@@ -253,7 +259,7 @@ module _ (w : Pair) (kept texts : List (List ℕ)) (acks : List Packet) (out : O
       let inbox = list_of w.ports.inboxes c in
       let nobody : None ≡ first_refusal (arrival_refusals (length w.ports.boxes) r c) =
       sym (λ i. cond (among c (length w.ports.boxes) low high i) (Some NoClient) (cond (runs i) (Some Stopped) None)) in
-      let row : None ≡ first_refusal (admit_refusals r) = sym (λ i. cond (test_below number_limit _ room i) (Some Exhausted) None) in
+      let row : None ≡ first_refusal (admit_refusals r) = sym (λ i. cond (lt-leb number_limit _ room i) (Some Exhausted) None) in
       record {
         events = Admit c ∷ [];
         replies = done.0 ∷ [];

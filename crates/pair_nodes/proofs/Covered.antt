@@ -10,7 +10,7 @@ use Rattle.pair_history.specs.Entries.{Frame}
 use Rattle.pair_record.specs.{declared.event.Refusal.Refusal, Modes.is_alone, Tables.first_refusal, Window.NumberedFrom}
 use Rattle.pair_core.specs.{Pair.Pair}
 use Rattle.checkpoint_stream.specs.Sound.{change_in}
-use Rattle.pair_core.proofs.Consistent.{keeps_nothing}
+use Rattle.pair_core.specs.laws.Consistent.{keeps_nothing}
 use Rattle.pair_nodes.specs.Frames.{GoesOnFrom, NoneGoesLive, out_to, sent_since}
 use Rattle.pair_nodes.specs.Matching.{HasRoom, Matches}
 use Rattle.pair_nodes.specs.{Sides.to_commit, StandbyCalls.commit_rows}

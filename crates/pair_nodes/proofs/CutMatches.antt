@@ -5,8 +5,9 @@ use Rattle.output_gate.specs.Epochs.{Epoch}
 use Rattle.pair_history.specs.Moves.{guest_along}
 use Rattle.pair_record.specs.declared.event.{Packet.Packet, Event.TheVariants.Cut}
 use Rattle.pair_record.specs.declared.event.Reply.TheVariants as replies
-use Rattle.pair_record.specs.{internal.Accords.all_moves, Modes.{is_alone, is_stopped}, Window.committed_count, Protocol.{first_refusal, cut_refusals}}
-use Rattle.pair_record.proofs.WindowLaws.{within}
+use Rattle.pair_record.specs.{Accords.all_moves, Modes.{is_alone, is_stopped}, Window.committed_count, Protocol.first_refusal}
+use Rattle.pair_record.specs.Protocol.{cut_refusals}
+use Rattle.pair_record.specs.laws.Windows.{within}
 use Rattle.pair_core.specs.Pair.{Pair, shown_state}
 use Rattle.pair_core.proofs.ReplicationLaws.{after_cut}
 use Rattle.pair_nodes.specs.Matching.{Fits, HasRoom, Matches, IsServed, held_of, sent_of, site_of, primary_of}

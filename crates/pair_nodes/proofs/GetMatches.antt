@@ -9,9 +9,10 @@ use Rattle.pair_record.specs.declared.event.{Packet.Packet, Event.TheVariants.Ba
 use Rattle.pair_record.specs.declared.event.Reply.TheVariants as replies
 use Rattle.pair_record.specs.{Modes.{is_alone}, Window.committed_count, Protocol.{first_refusal, backup_refusals, again_done, commit_done}}
 use Rattle.pair_record.specs.Window.{with_commit as with_commit_window}
-use Rattle.pair_record.proofs.{RecordLaws.{passed, generation_is}, ModeLaws.filled_alone}
+use Rattle.pair_record.specs.laws.{Tables.{passed, same_generation}, Modes.filled_alone}
 use Rattle.pair_core.specs.{Lines.{packet}, Nodes.{read_as, first_text, later_texts}, Pair.Pair}
-use Rattle.pair_core.proofs.{LineLaws.below_at, ReplicationLaws.after_commit}
+use Rattle.pair_core.specs.laws.Lines.{below_at}
+use Rattle.pair_core.proofs.ReplicationLaws.{after_commit}
 use Rattle.pair_nodes.specs.Matching.{Fits, HasRoom, HaveNames, Matches, IsServed, site_of, standby_of, WasSent}
 use Rattle.pair_nodes.specs.{Sides.{to_commit, get_rows}, StandbyCalls.commit_rows}
 use Rattle.checkpoint_stream.specs.Readings.{Reading, begun, fed}
@@ -90,7 +91,7 @@ module _ (w : Pair) (kept texts : List (List ℕ)) (acks : List Packet) (out : O
         sym rows-are ∙ (λ i. cond (one.0 i) (Some Stale) (cond (two.0 i) (Some Gap) None))
 
     same : s.generation ≡ w.protocol.state.generation
-    same = generation_is s.generation w.protocol.state.generation (passed _ _ _ allowed).0
+    same = same_generation s.generation w.protocol.state.generation (passed _ _ _ allowed).0
 
     near : s.number ≤ w.protocol.state.window.to_commit
     near =

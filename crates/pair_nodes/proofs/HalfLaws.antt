@@ -11,7 +11,7 @@ use Rattle.guest_machine.specs.Runs.{sent_in, HaveRoom}
 use Rattle.pair_history.specs.Entries.{Frame}
 use Rattle.pair_record.specs.declared.event.{Packet.Packet, Refusal.{Refusal}, Refusal.TheVariants.{CutNeeded, NotPaired, AlreadyPaired, Exhausted, Stale, NoImage}}
 use Rattle.pair_record.specs.{Limits.last_frame, Tables.first_refusal}
-use Rattle.pair_record.proofs.RecordLaws.{passed, generation_is}
+use Rattle.pair_record.specs.laws.Tables.{passed, same_generation}
 use Rattle.pair_nodes.specs.declared.standby.Commit.{Commit, TheVariants.{Committed, Again}}
 use Rattle.pair_nodes.specs.Halves.{acknowledged_by}
 use Rattle.pair_nodes.specs.PrimaryCalls.{IsSealed, IsSteps, IsProtected, ack_rows, alone_rows, after_release, first_pending}
@@ -61,7 +61,7 @@ ack_happens s ack free =
     let p = s.primary in
     let one = passed (not p.backed) NotPaired _ free in
     let two = passed (not (ack.generation == p.generation)) Stale _ one.1 in
-    (has p.backed one.0, generation_is ack.generation p.generation two.0, refl)
+    (has p.backed one.0, same_generation ack.generation p.generation two.0, refl)
 
 pub alone_happens : (s : Site) → IsFree (alone_rows s.primary) → length s.primary.live.outbox ≤ 256 → Happens s goes_alone (alone_site s)
 alone_happens s free few =

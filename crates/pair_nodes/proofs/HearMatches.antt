@@ -10,11 +10,13 @@ use Rattle.pair_record.specs.Modes.{is_alone, is_stopped}
 use Rattle.pair_record.specs.Protocol.{Record, first_refusal, ack_refusals, ack_done, ack_outcome, let_go}
 use Rattle.pair_record.specs.Record.{ports_after_ack, first_held}
 use Rattle.pair_record.specs.Window.{committed_count, committed_of, uncommitted_of, with_acknowledged, first_after}
-use Rattle.pair_record.proofs.{NumberLaws.{ack_numbers, landed_ports}, RecordLaws.{ack_record, ack_row}}
-use Rattle.pair_record.proofs.WindowLaws.{leaves, left_over, within, test_below}
+use Rattle.pair_record.specs.laws.{Numbers.{ack_numbers, landed_ports}, Records.ack_record, Tables.ack_row}
+use Rattle.pair_record.specs.laws.Windows.{leaves, left_over, within}
+use Rattle.std.proofs.lemmas.Bool.{lt-leb}
 use Rattle.std.proofs.lemmas.List.{length-take-le, take-append-drop}
 use Rattle.pair_core.specs.{Pair.{Pair, shown_state}}
-use Rattle.pair_core.proofs.{ClientEvents.ack_holds, LineLaws.below_at, Outcomes.goes}
+use Rattle.pair_core.specs.laws.{ClientEvents.ack_holds, Lines.below_at}
+use Rattle.pair_core.proofs.Outcomes.{goes}
 use Rattle.pair_nodes.specs.Matching.{AreNumberedFrom, HaveNames, Fits, Kept, Matches, IsServed, HasRoom, site_of, WasAcknowledged}
 use Rattle.pair_nodes.specs.Networks.{Output, with_out}
 use Rattle.pair_nodes.specs.Runs.{Premises, adds}
@@ -73,7 +75,7 @@ module _ (w : Pair) (kept texts : List (List ℕ)) (acks : List Packet) (out : O
   free : first_refusal (ack_refusals w.ports.boxes w.protocol.state p) ≡ None
   free =
       let more = length (let_go w.ports.boxes r p.number) in
-      ack_row w.ports.boxes r p same ∙ ap (λ (t : Bool). cond t (Some Exhausted) None) (test_below number_limit _ room)
+      ack_row w.ports.boxes r p same ∙ ap (λ (t : Bool). cond t (Some Exhausted) None) (lt-leb number_limit _ room)
 
   abbrev left : List Epoch
   left = after_number p.number w.protocol.state.pending

@@ -11,9 +11,11 @@ use Rattle.pair_record.specs.{Kept.{all_frames, brought}, FailureActs.first_unco
 use Rattle.pair_record.specs.{Modes.{is_alone, mode_refusal}, Protocol.{Record, Outcome, first_refusal, go_live_refusals, go_live_done, unless, shown_at}}
 use Rattle.pair_record.specs.Protocol.{live_entries}
 use Rattle.pair_record.specs.{Record.{AreNumbered, SuitsMode, owed_to, ports_after_live}, Window.{committed_count, committed_of, none_pending}}
-use Rattle.pair_record.proofs.{BroughtLaws.brought_ports, EpochAccords.drop-none, LiveLaws.{length-live, live_record}, NumberLaws.live_numbers, WindowLaws.test_below}
+use Rattle.pair_record.specs.laws.{Owed.brought_ports, Live.length-live, Records.live_record, Numbers.live_numbers}
+use Rattle.std.proofs.{Math.Seq.drop-nil, lemmas.Bool.lt-leb}
 use Rattle.pair_core.specs.{Kept.first_kept, Lines.packet, Nodes.gone_live, Pair.{Pair, shown_state}}
-use Rattle.pair_core.proofs.{GoneLive.gone_live_holds, KeptLaws.keeps_brings, Outcomes.goes}
+use Rattle.pair_core.specs.laws.{GoneLive.gone_live_holds, Kept.keeps_brings}
+use Rattle.pair_core.proofs.Outcomes.{goes}
 use Rattle.pair_nodes.specs.Matching.{CanGoLive, Fits, HasRoom, Kept, Matches, IsServed, network_of, site_of, primary_of, standby_of}
 use Rattle.frame_ports.specs.laws.Addresses.{targets_of-clients}
 use Rattle.checkpoint_stream.specs.Readings.{begun}
@@ -29,7 +31,8 @@ use Rattle.std.proofs.lemmas.List.{length-append}
 use Rattle.frame_ports.specs.Addresses.{targets_of}
 use Rattle.frame_ports.specs.laws.Addresses.{targets_of-append}
 use Rattle.pair_history.specs.laws.Waits.{arrived-few}
-use Rattle.pair_record.proofs.KeptLists.{all_frames-append, all_frames-epochs}
+use Rattle.pair_journal.specs.laws.Landed.{all_frames-append}
+use Rattle.pair_record.specs.laws.Owed.{all_frames-epochs}
 use Rattle.pair_history.specs.laws.Landings.{length-landings}
 use Rattle.pair_record.specs.{Journal.kept_entries, Kept.frames_by_epoch}
 use Rattle.pair_nodes.proofs.{Bags.{at_site, at_most, matches_so, next_is, sent_on}, PairEvents.{in_mode, one_event}}
@@ -125,8 +128,8 @@ module _ (w : Pair) (kept texts : List (List ℕ)) (acks : List Packet) (out : O
 
   free : first_refusal (go_live_refusals w.ports.boxes (owed_to w.protocol.state w.ports) w.protocol.state) ≡ None
   free =
-      let generation = test_below number_limit (r.generation + 1) last in
-      let history = test_below number_limit _ room in
+      let generation = lt-leb number_limit (r.generation + 1) last in
+      let history = lt-leb number_limit _ room in
       λ i. cond (generation i) (Some Exhausted) (cond (history i) (Some Exhausted) None)
 
   -- what the protocol looks at is what the ports and the gate have
@@ -145,7 +148,7 @@ module _ (w : Pair) (kept texts : List (List ℕ)) (acks : List Packet) (out : O
   live_fits = record {
     pair = live_kept;
     count = refl;
-    sealed = sym (drop-none (committed_count (none_pending r.window.to_commit)));
+    sealed = sym (drop-nil (committed_count (none_pending r.window.to_commit)));
     numbered = tt;
     sent = λ i t is.
         let s = h.sent i t is in

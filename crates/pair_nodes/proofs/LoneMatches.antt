@@ -15,12 +15,13 @@ use Rattle.pair_history.specs.Entries.{Frame, Ran}
 use Rattle.pair_history.specs.Landings.{landings}
 use Rattle.pair_record.specs.declared.event.{Packet.Packet, Event.TheVariants.Step}
 use Rattle.pair_record.specs.{Limits.last_frame, Modes.is_alone, Record.ports_landed, Tables.frames_run_out}
-use Rattle.pair_record.proofs.AccordLaws.{first_lone}
+use Rattle.pair_record.specs.laws.Numbers.{first_lone}
 use Rattle.pair_history.specs.laws.Landings.{length-landings}
-use Rattle.pair_record.proofs.NumberLaws.{landed_ports, lone_numbers}
-use Rattle.pair_record.proofs.RecordLaws.{history_record}
-use Rattle.pair_core.specs.{Pair.Pair, internal.Invariant.KeepsNothing}
-use Rattle.pair_core.proofs.{AloneRuns.{after_alone, alone_holds, alone_answered}, Consistent.{alone_is, keeps_nothing}}
+use Rattle.pair_record.specs.laws.Numbers.{landed_ports, lone_numbers}
+use Rattle.pair_record.specs.laws.Records.{history_record}
+use Rattle.pair_core.specs.{Pair.Pair, Invariant.KeepsNothing}
+use Rattle.pair_core.proofs.AloneRuns.{after_alone, alone_holds, alone_answered}
+use Rattle.pair_core.specs.laws.Consistent.{alone_is, keeps_nothing}
 use Rattle.pair_nodes.specs.Matching.{Fits, HasRoom, Kept, Matches, IsServed, site_of}
 use Rattle.pair_nodes.specs.Networks.{Network, Output, with_frames, with_out}
 use Rattle.pair_nodes.specs.Runs.{Premises, adds, copies}

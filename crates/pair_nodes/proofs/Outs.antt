@@ -14,11 +14,13 @@ use Rattle.pair_history.specs.HistoryState.{HistoryState, at, after, sent_along,
 use Rattle.pair_history.specs.Moves.{Move, entries_of, guest_along, frames_along, AllCan}
 use Rattle.pair_history.specs.laws.Moves.{AllCan-front, frames_along-append, sent_along-moves}
 use Rattle.pair_record.specs.Journal.{joined, first_of, kept_entries, with_moves}
-use Rattle.pair_record.specs.internal.Accords.{all_moves, epoch_frames, frames_by_epoch}
+use Rattle.pair_record.specs.Accords.{all_moves, epoch_frames, frames_by_epoch}
 use Rattle.pair_record.specs.{Window.{NumberedFrom, committed_count, committed_of, uncommitted_of, with_acknowledged}}
-use Rattle.pair_record.proofs.{AccordLaws.{kept_is, next_epoch}, EpochAccords.take-none, WindowLaws.{committed_left, gone, leaves, within}}
-use Rattle.pair_core.specs.{internal.Invariant.{Holds, KeepsNothing}, Pair.{Pair, shown_state}}
-use Rattle.pair_core.proofs.{Consistent.live_is, ReplicationLaws.after_commit}
+use Rattle.pair_record.specs.laws.{Accords.{kept_is, next_epoch}, Windows.{committed_left, gone, leaves, within}}
+use Rattle.std.proofs.Math.Seq.{take-nil}
+use Rattle.pair_core.specs.{Invariant.{Holds, KeepsNothing}, Pair.{Pair, shown_state}}
+use Rattle.pair_core.specs.laws.Consistent.{live_is}
+use Rattle.pair_core.proofs.ReplicationLaws.{after_commit}
 use Rattle.pair_nodes.specs.Frames.{AreOut}
 use Rattle.pair_nodes.specs.Matching.{Kept, held_of, sent_of}
 use Rattle.pair_nodes.specs.Networks.{Output, Turn, frames_in, with_out, with_next}
@@ -208,7 +210,7 @@ module _ (w : Pair) (k : Kept w) (out : Output) (a : AreOut out (held_of w) (sen
       let late = frames_of (uncommitted_of r.window r.pending) in
       let more = late ++ w.nodes.live.outbox in
       let fs = frames_of r.pending ++ w.nodes.live.outbox in
-      let none : frames_of (take m []) ≡ [] = ap frames_of (take-none m) in
+      let none : frames_of (take m []) ≡ [] = ap frames_of (take-nil m) in
       let all : frames_of r.pending ≡ held_of w ++ late =
       ap frames_of (sym (take-append-drop (committed_count r.window) r.pending))
       ∙ frames_of-append (committed_of r.window r.pending) (uncommitted_of r.window r.pending) in
@@ -250,7 +252,7 @@ module _ (w : Pair) (k : Kept w) (out : Output) (a : AreOut out (held_of w) (sen
       let order = x.committed in
       let whole : r.window.to_acknowledge + committed_count r.window ≡ r.window.to_commit = omega arith in
       next-turn out (held_of w) (sent_of w) (frames_to (r.window.to_commit - 1) r.pending) (frames_of (take m [])) _ a
-      (below-first (committed_count r.window) r.window.to_acknowledge r.window.to_commit r.pending some whole x.numbers) (ap frames_of (take-none m))
+      (below-first (committed_count r.window) r.window.to_acknowledge r.window.to_commit r.pending some whole x.numbers) (ap frames_of (take-nil m))
       (silent w.start j.history (map DropIn ns ++ landings w.ports.boxes ps)
       (silent s (map DropIn ns) (landings w.ports.boxes ps) (sent-landings _ w.ports.boxes ps) ∙ sent-drops s ns))
 
@@ -258,7 +260,7 @@ module _ (w : Pair) (k : Kept w) (out : Output) (a : AreOut out (held_of w) (sen
 pub none-held : (w : Pair) → KeepsNothing w.protocol.state → held_of w ≡ []
 none-held w nothing =
     ap (λ (es : List Epoch). frames_of (take (committed_count w.protocol.state.window) es)) nothing.2
-    ∙ ap frames_of (take-none (committed_count w.protocol.state.window))
+    ∙ ap frames_of (take-nil (committed_count w.protocol.state.window))
 
 -- its steps
 module _ (w : Pair) (k : Kept w) (nothing : KeepsNothing w.protocol.state) (out : Output) (a : AreOut out (held_of w) (sent_of w)) (n : ℕ)

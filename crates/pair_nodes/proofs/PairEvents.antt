@@ -12,11 +12,13 @@ use Rattle.failover.specs.declared.change.Change.TheVariants as changes
 use Rattle.pair_record.specs.Modes.{is_stopped, is_alone, primary_refusal, backup_refusal, change_refusal, mode_refusal}
 use Rattle.pair_record.specs.Protocol.{Outcome, first_refusal, cut_refusals, cut_done, send_done, allowed, outcome, refused, or_else}
 use Rattle.pair_record.specs.Protocol.{backup_refusals, backup_outcome, backup_done}
-use Rattle.pair_record.proofs.{RecordLaws.{cut_record, commit_record}, NumberLaws.{sealed_numbers, commit_numbers}}
+use Rattle.pair_record.specs.laws.{Records.{cut_record, commit_record}, Numbers.{sealed_numbers, commit_numbers}}
 use Rattle.pair_core.specs.{Answering.AnswersEvent, Lines.{packet, packet_of, with_forward, with_back, got}, Nodes.{HasShape, machine_of}}
 use Rattle.pair_core.specs.{Pair.Pair, Service.{Serves, HasServed, moment}, Texts.IsText}
-use Rattle.pair_core.proofs.{Consistent.consistent, PublicLaws.answers_drop, ServiceLaws.serves, ReplicationLaws.{after_cut, after_commit}}
-use Rattle.pair_core.proofs.{Events.{cut_holds, commit_holds, lines_hold}, LineLaws.{named-sent, named-back}, Outcomes.{goes, cut_sight}}
+use Rattle.pair_core.specs.laws.Consistent.{consistent}
+use Rattle.pair_core.proofs.{PublicLaws.answers_drop, ServiceLaws.serves, ReplicationLaws.{after_cut, after_commit}}
+use Rattle.pair_core.specs.laws.{Events.{cut_holds, commit_holds, lines_hold}, Lines.{named-sent, named-back}}
+use Rattle.pair_core.proofs.Outcomes.{goes, cut_sight}
 use Rattle.pair_nodes.specs.Matching.{Kept}
 
 -- an event that is answered as the protocol says serves the clients

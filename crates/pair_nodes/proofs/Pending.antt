@@ -10,7 +10,8 @@ use Rattle.output_gate.specs.Epochs.{Epoch, IsEpoch, frames_of, after_number}
 use Rattle.pair_record.specs.Modes.{is_alone}
 use Rattle.pair_record.specs.Window.{NumberedFrom}
 use Rattle.pair_nodes.specs.PrimaryCalls.{has_full}
-use Rattle.pair_record.proofs.WindowLaws.{Taken, taken, is_from, is_below}
+use Rattle.pair_record.specs.laws.Windows.{Taken, taken}
+use Rattle.std.proofs.lemmas.Bool.{leb-true, leb-false}
 
 pub below_all : (n m : ℕ) (es : List Epoch) → NumberedFrom n es → n + length es ≤ m → All (λ e. e.number < m) es
 below_all n m [] h l = All-nil (λ e. e.number < m)
@@ -38,12 +39,12 @@ by_test : (n a : ℕ) (es : List Epoch) (t : Taken n a es []) → after_number n
     → (b : Bool) → nat_le a n ≡ b → Left n a es
 by_test n a es t rest numbers true on =
     let first : cond (nat_le a n) (n + 1) a ≡ n + 1 = ap (λ b. cond b (n + 1) a) on in
-    let from : a ≤ n = is_from a n on in
+    let from : a ≤ n = leb-true a n on in
     made n a (n + 1) es t.stay rest (ap (λ m. m + length t.stay) (sym first) ∙ t.count) refl (omega (arith, from))
     (subst (λ m. NumberedFrom m t.stay) first numbers)
 by_test n a es t rest numbers false off =
     let first : cond (nat_le a n) (n + 1) a ≡ a = ap (λ b. cond b (n + 1) a) off in
-    let under : n < a = is_below a n off in
+    let under : n < a = leb-false a n off in
     made n a a es t.stay rest (ap (λ m. m + length t.stay) (sym first) ∙ t.count) (omega (arith, under)) (omega arith)
     (subst (λ m. NumberedFrom m t.stay) first numbers)
 

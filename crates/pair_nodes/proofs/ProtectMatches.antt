@@ -8,11 +8,14 @@ use Rattle.output_gate.specs.laws.Ports.{boxes_count-after, numbers_count-after}
 use Rattle.pair_record.specs.declared.event.{Packet.Packet, Event.TheVariants.{FailBackup, Protect}, Refusal.TheVariants.Exhausted}
 use Rattle.pair_record.specs.{Modes.{is_alone, is_stopped, mode_refusal}, Record.{first_held, ports_after_all}, Window.{committed_count, none_pending}}
 use Rattle.pair_record.specs.Protocol.{Outcome, first_refusal, all_held, fail_backup_refusals, fail_backup_done, protect_refusals, protect_done}
-use Rattle.pair_record.proofs.{AloneLaws.failure_record, EpochAccords.drop-none, NumberLaws.{failure_numbers, landed_ports, protect_numbers}}
-use Rattle.pair_record.proofs.{ProtectLaws.protect_record, WindowLaws.test_below}
+use Rattle.pair_record.specs.laws.{Records.failure_record, Numbers.{failure_numbers, landed_ports, protect_numbers}}
+use Rattle.std.proofs.Math.Seq.{drop-nil}
+use Rattle.pair_record.specs.laws.Records.{protect_record}
+use Rattle.std.proofs.lemmas.Bool.{lt-leb}
 use Rattle.pair_core.specs.{Lines.packet, Nodes.{left_alone, with_protected}, Pair.Pair}
-use Rattle.pair_core.proofs.{AllLands.all_landed_holds, Consistent.{keeps_nothing, some_cut}, LineLaws.below_at, Outcomes.{fail_backup_sight, goes}}
-use Rattle.pair_core.proofs.Protected.{protect_holds}
+use Rattle.pair_core.specs.laws.{AllLands.all_landed_holds, Consistent.{keeps_nothing, some_cut}, Lines.below_at}
+use Rattle.pair_core.proofs.Outcomes.{fail_backup_sight, goes}
+use Rattle.pair_core.specs.laws.Protected.{protect_holds}
 use Rattle.pair_nodes.specs.Matching.{Fits, HasRoom, Kept, Matches, IsServed, held_of, sent_of, site_of, primary_of, standby_of}
 use Rattle.checkpoint_stream.specs.Readings.{begun}
 use Rattle.pair_nodes.proofs.Coming.{fed-none}
@@ -91,7 +94,7 @@ module _ (w : Pair) (kept texts : List (List ℕ)) (acks : List Packet) (out : O
         run =
             let none : mode_refusal r.mode Protect ≡ None = ap (λ m. mode_refusal m Protect) alone in
             let free : first_refusal (protect_refusals r) ≡ None =
-            ap (λ (t : Bool). cond t (Some Exhausted) None) (test_below number_limit (r.generation + 1) last) in
+            ap (λ (t : Bool). cond t (Some Exhausted) None) (lt-leb number_limit (r.generation + 1) last) in
             one_event w backed Protect done.0 h.pair protect_kept refl
             (inl (in_mode w Protect None done none (goes r (protect_refusals r) done None (sym free) refl)), refl);
         matches = matches_so (protect_site (site_of w kept texts acks out came) text) backed (text ∷ []) texts acks out []
@@ -150,7 +153,7 @@ module _ (w : Pair) (kept texts : List (List ℕ)) (acks : List Packet) (out : O
       record {
         pair = alone_kept;
         count = refl;
-        sealed = sym (drop-none (committed_count (none_pending r.window.to_cut)));
+        sealed = sym (drop-nil (committed_count (none_pending r.window.to_cut)));
         numbered = tt;
         sent = λ i t is.
             let s = h.sent i t is in
@@ -183,7 +186,7 @@ module _ (w : Pair) (kept texts : List (List ℕ)) (acks : List Packet) (out : O
         start = refl;
         run =
             let free : first_refusal (fail_backup_refusals w.ports.boxes outbox r) ≡ None =
-            ap (λ (t : Bool). cond t (Some Exhausted) None) (test_below number_limit _ room) in
+            ap (λ (t : Bool). cond t (Some Exhausted) None) (lt-leb number_limit _ room) in
             one_event w left FailBackup done.0 h.pair alone_kept refl (
               inl (in_mode w FailBackup None done (both_fail r.mode runs two)
                   (goes r (fail_backup_refusals w.ports.boxes outbox r) done None (sym free) refl ∙ fail_backup_sight w h.pair.holds)),

@@ -6,7 +6,7 @@ use Rattle.guest_machine.specs.Runs.{after_steps}
 use Rattle.guest_machine.specs.Step.{arrived}
 use Rattle.pair_history.specs.Entries.{Frame}
 use Rattle.pair_core.specs.Nodes.{HasShape}
-use Rattle.pair_core.proofs.NodesLaws.{shape-boot, shape-arrived, shape-after_steps}
+use Rattle.pair_core.specs.laws.Nodes.{shape-boot, shape-arrived, shape-after_steps}
 
 pub sized_at_boot : (s : Shape) (image : List ℕ) → length image ≤ 4096 * s.pages → HasShape s (boot_guest s.pages s.sectors image)
 sized_at_boot = shape-boot

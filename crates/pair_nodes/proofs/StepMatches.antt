@@ -6,7 +6,7 @@ use Rattle.pair_record.specs.declared.event.{Packet.Packet, Event.TheVariants.St
 use Rattle.pair_record.specs.declared.event.Reply.TheVariants as replies
 use Rattle.pair_record.specs.{Modes.{is_alone, is_stopped}}
 use Rattle.pair_core.specs.{Calls.Moment, Pair.Pair, Runs.{StepsAnswerIn, with_steps}, Service.{HasServed, ServesSteps, moment}}
-use Rattle.pair_core.proofs.{Consistent.{consistent}}
+use Rattle.pair_core.specs.laws.Consistent.{consistent}
 use Rattle.pair_core.proofs.{StepRuns.{steps_hold, steps_answered}, StepsServed.serves_steps}
 use Rattle.pair_nodes.specs.Matching.{Fits, HasRoom, Kept, Matches, IsServed, site_of}
 use Rattle.pair_nodes.specs.Networks.{Output}

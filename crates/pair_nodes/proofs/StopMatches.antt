@@ -6,7 +6,7 @@ use Rattle.pair_record.specs.declared.event.{Packet.Packet, Event.TheVariants.Fa
 use Rattle.pair_record.specs.declared.event.Reply.TheVariants as replies
 use Rattle.pair_record.specs.{Modes.{is_alone, mode_refusal}, Protocol.fail_primary_done, Record.{SuitsMode}}
 use Rattle.pair_core.specs.Pair.{Pair}
-use Rattle.pair_core.proofs.Events.{mode_holds}
+use Rattle.pair_core.specs.laws.Events.{mode_holds}
 use Rattle.pair_nodes.specs.Matching.{Fits, HasRoom, Kept, Matches, IsServed, site_of, primary_of}
 use Rattle.pair_nodes.specs.Networks.{Output}
 use Rattle.pair_nodes.specs.Runs.{Premises}

@@ -3,7 +3,7 @@ use Rattle.std.proofs.Common.{◌≡◌, ℕ, ◌+◌, List, [], ◌∷◌, ◌+
 use Rattle.pair_history.specs.HistoryState.{HistoryState}
 use Rattle.pair_record.specs.declared.event.{Event.Event, Reply.Reply}
 use Rattle.pair_core.specs.{Along.Along, Pair.Pair, Service.{Serves, HasServed, moment}}
-use Rattle.pair_core.proofs.AlongLaws.{along-append}
+use Rattle.pair_core.specs.laws.Along.{along-append}
 use Rattle.pair_nodes.specs.Matching.{IsServed, Matches}
 use Rattle.pair_nodes.specs.Runs.{Call, call_of, calls_in}
 use Rattle.pair_nodes.specs.Sites.{Site}

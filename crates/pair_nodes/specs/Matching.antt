@@ -20,7 +20,7 @@ use Rattle.pair_record.specs.Window.{committed_count, committed_of}
 use Rattle.pair_core.specs.Lines.{packet}
 use Rattle.pair_core.specs.Pair.{Pair}
 use Rattle.pair_core.specs.Service.{HasServed, moment}
-use Rattle.pair_core.specs.internal.Invariant.{Holds}
+use Rattle.pair_core.specs.Invariant.{Holds}
 use Rattle.pair_nodes.specs.Sides.{Primary, Standby}
 use Rattle.pair_nodes.specs.{Frames.AreOut, Names.OneNameOneText}
 use Rattle.pair_nodes.specs.Networks.{Network, Output}

@@ -1,29 +1,15 @@
 -- Laws of a node that is alone: what the gate held lands, followed by the outbox, and nothing is kept or pending.
-use Rattle.std.proofs.Common.{rules, ◌≡◌, ℕ, ◌+◌, ◌*◌, ◌≤◌, List, [], ◌∷◌, ◌++◌, length, refl, sym, ap, ◌∙◌, arith, Bool, cond, Some, None}
+use Rattle.std.proofs.Common.{rules, ◌≡◌, ℕ, ◌+◌, ◌*◌, ◌≤◌, List, [], ◌∷◌, ◌++◌, length, sym, ap, ◌∙◌, arith, Bool, cond, Some}
+use Rattle.std.proofs.{Common.{None, mul-le-mul_right}, lemmas.Bool.Decides.nat_tests, lemmas.List.length-append}
 use Rattle.std.specs.Prelude.{nat_le, min}
 use Rattle.frame_ports.specs.{Addresses.targets_of, Limits.number_limit}
-use Rattle.std.proofs.{Common.{append_assoc, mul-le-mul_right}, lemmas.{Bool.Decides.nat_tests, List.{length-append, append-nil}}}
 use Rattle.frame_ports.specs.laws.Addresses.{length-targets_of, targets_of-append}
-use Rattle.output_gate.specs.Epochs.{Epoch, epoch, frames_of, frames_to}
-use Rattle.pair_history.specs.Entries.{Frame, Entry}
-use Rattle.pair_record.specs.Protocol.{Record, all_held, failure_done}
-use Rattle.pair_record.specs.Record.{IsRecord}
-use Rattle.pair_record.specs.Protocol.{exhausts, frames_run_out, first_refusal}
-use Rattle.pair_record.specs.EpochActs.{enter_epoch_refusals}
+use Rattle.output_gate.specs.Epochs.{epoch, frames_of, frames_to}
+use Rattle.pair_history.specs.Entries.{Frame}
+use Rattle.pair_record.specs.{Protocol.{Record, all_held, exhausts, frames_run_out, first_refusal}, Record.IsRecord}
+use Rattle.pair_record.specs.{EpochActs.enter_epoch_refusals, declared.event.Refusal.TheVariants.Exhausted}
 use Rattle.pair_journal.specs.Journal.{all_entries}
-use Rattle.pair_record.specs.Window.{NumberedFrom}
-use Rattle.pair_record.specs.declared.event.Refusal.TheVariants.{Exhausted}
-use Rattle.pair_record.proofs.WindowLaws.{NumberedFrom-push, test_from}
-
--- the frames of all epochs, where none has a number above n
-pub frames_to-all : (n m : ℕ) (es : List Epoch) → NumberedFrom m es → m + length es ≤ n + 1 → frames_to n es ≡ frames_of es
-frames_to-all n m [] h l = refl
-frames_to-all n m (e ∷ es) h l = search (arith, rules, test_from, frames_to-all n (m + 1) es h.1 (omega arith))
-
-pub frames_of-push : (es : List Epoch) (e : Epoch) → frames_of (es ++ e ∷ []) ≡ frames_of es ++ e.frames
-frames_of-push [] e = append-nil e.frames
-frames_of-push (x ∷ es) e =
-    ap (λ (t : List Frame). x.frames ++ t) (frames_of-push es e) ∙ sym (append_assoc x.frames (frames_of es) e.frames)
+use Rattle.pair_record.specs.laws.Windows.{NumberedFrom-push, frames_to-all, frames_of-push}
 
 -- to how many clients all that is held goes, and then the outbox
 pub count-all : (boxes : List (List Frame)) (outbox : List Frame) (r : Record)
@@ -49,10 +35,6 @@ module _ (r : Record) (h : IsRecord r) where
       frames_to-all r.window.to_cut r.window.to_acknowledge (r.pending ++ e ∷ [])
       (NumberedFrom-push r.window.to_acknowledge r.pending e h.window.numbers (sym h.window.count)) (omega arith)
       ∙ frames_of-push r.pending e
-
-  pub failure_record : (epoch rest : List Entry) (boxes : List (List Frame)) (frames : List Frame)
-      → IsRecord (failure_done epoch rest boxes frames r).1
-  failure_record epoch rest boxes frames = search (arith, rules)
 
 -- 64 frames go to 64 times as many as there are clients, at most
 pub few_targets : (n : ℕ) (fs : List Frame) → length fs ≤ 64 → length (targets_of n fs) ≤ 64 * n

@@ -1,25 +1,16 @@
 -- What going live adds to the history, and what is true of the record after it.
-use Rattle.std.proofs.Common.{rules, ◌≡◌, ℕ, ◌+◌, ◌-◌, ◌<◌, ◌≤◌, List, [], ◌++◌, length, sym, ap, ◌∙◌, arith, append_assoc}
-use Rattle.std.proofs.Common.{Bool, true, cond, Some, None}
-use Rattle.std.proofs.lemmas.List.{append-nil, length-append, length-take-le, nil_from_length}
+use Rattle.std.proofs.Common.{rules, ◌≡◌, ℕ, ◌+◌, ◌-◌, ◌<◌, ◌≤◌, List, [], ◌++◌, length, sym, ap, ◌∙◌, arith, append_assoc, Bool, true}
+use Rattle.std.proofs.{Common.{cond, Some, None}, lemmas.List.{append-nil, length-take-le, nil_from_length}}
+use Rattle.std.proofs.lemmas.Bool.{leb-false, le-leb, lt-leb}
 use Rattle.std.specs.Prelude.{nat_le}
 use Rattle.frame_ports.specs.Limits.{number_limit}
 use Rattle.output_gate.specs.Epochs.{Epoch, frames_of, frames_to}
-use Rattle.pair_history.specs.{Entries.Entry, Failures.{arrived_numbers, drops_of_taken_in}}
+use Rattle.pair_history.specs.{Entries.Entry, Failures.{arrived_numbers}}
 use Rattle.pair_journal.specs.Journal.{Journal, kept_entries, with_history}
-use Rattle.pair_journal.specs.laws.Joined.{length-drops}
-use Rattle.pair_record.specs.{declared.event.Refusal.TheVariants.Exhausted, declared.window.Window.Window}
-use Rattle.pair_record.specs.{FailureActs.{entries_with, live_refusals, live_done}, Protocol.{Record, first_refusal}}
-use Rattle.pair_record.specs.{Record.{IsRecord}, Window.{IsWindow, first_after, committed_count, committed_of}}
-use Rattle.pair_record.proofs.{RecordLaws.passed}
-use Rattle.pair_record.proofs.WindowLaws.{within, leaves, gone, is_below, test_from, test_below}
-
-pub length-live : (landed : List Entry) (j : Journal)
-    → length (entries_with landed j) ≡ length (arrived_numbers (kept_entries j)) + length landed
-length-live landed j =
-    let a = length-append (drops_of_taken_in (kept_entries j)) landed in
-    let b = length-drops j in
-    omega arith
+use Rattle.pair_record.specs.{declared.event.Refusal.TheVariants.Exhausted, declared.window.Window.Window, FailureActs.entries_with}
+use Rattle.pair_record.specs.{FailureActs.{live_refusals}, Protocol.{Record, first_refusal}, Window.IsWindow}
+use Rattle.pair_record.specs.Window.{first_after, committed_count, committed_of}
+use Rattle.pair_record.specs.laws.{Tables.passed, Windows.{within, leaves, gone}, Live.length-live}
 
 -- What the gate holds of committed checkpoints
 
@@ -29,7 +20,7 @@ committed_held w pending h some =
     let n = w.to_commit - 1 in
     let below : n < w.to_commit = omega arith in
     let t = leaves w pending h n below in
-    let from : nat_le w.to_acknowledge n ≡ true = test_from w.to_acknowledge n (omega arith) in
+    let from : nat_le w.to_acknowledge n ≡ true = le-leb w.to_acknowledge n (omega arith) in
     let start : first_after n w.to_acknowledge ≡ n + 1 = ap (λ (b : Bool). cond b (n + 1) w.to_acknowledge) from in
     let whole : length (committed_of w pending) ≡ committed_count w = length-take-le (committed_count w) pending (within w pending h) in
     let none : length t.stay ≡ 0 = let k = t.count in omega arith in
@@ -48,20 +39,20 @@ live_count r landed = length r.journal.history + (length (arrived_numbers (kept_
 -- the table of refusals, where there is a next generation
 module _ (r : Record) (landed : List Entry) (next : r.generation + 1 < number_limit) where
   live_row : first_refusal (live_refusals landed r) ≡ cond (nat_le number_limit (live_count r (length landed))) (Some Exhausted) None
-  live_row = search (arith, rules, length-live, test_below)
+  live_row = search (arith, rules, length-live, lt-leb)
 
   -- by a count that stops at the limit
   module _ (count : ℕ) (most : count ≤ length landed) (exact : count < number_limit → count ≡ length landed) where
     pub live_refused : number_limit ≤ live_count r count → Some Exhausted ≡ first_refusal (live_refusals landed r)
     live_refused h =
         sym (live_row
-        ∙ ap (λ (t : Bool). cond t (Some Exhausted) None) (test_from number_limit (live_count r (length landed)) (omega arith)))
+        ∙ ap (λ (t : Bool). cond t (Some Exhausted) None) (le-leb number_limit (live_count r (length landed)) (omega arith)))
 
     pub live_allowed : live_count r count < number_limit → None ≡ first_refusal (live_refusals landed r)
     live_allowed h =
         let same = exact (omega arith) in
         sym (live_row
-        ∙ ap (λ (t : Bool). cond t (Some Exhausted) None) (test_below number_limit (live_count r (length landed)) (omega arith)))
+        ∙ ap (λ (t : Bool). cond t (Some Exhausted) None) (lt-leb number_limit (live_count r (length landed)) (omega arith)))
 
 -- and where it refuses nothing, the history has numbers for all that is added
 pub live_fits : (r : Record) (landed : List Entry) → first_refusal (live_refusals landed r) ≡ None
@@ -70,13 +61,10 @@ live_fits r landed free =
     let j = r.journal in
     let many = length j.history + length (entries_with landed j) in
     let row = passed (nat_le number_limit (r.generation + 1)) Exhausted (cond (nat_le number_limit many) (Some Exhausted) None) free in
-    let fits = is_below number_limit many (passed (nat_le number_limit many) Exhausted None row.1).0 in
+    let fits = leb-false number_limit many (passed (nat_le number_limit many) Exhausted None row.1).0 in
     let all = length-live landed j in
     omega arith
 
 -- the history goes on by these entries, and then by those
 pub goes_on_twice : (j : Journal) (es fs : List Entry) → with_history (with_history j es) fs ≡ with_history j (es ++ fs)
 goes_on_twice j es fs = λ i. record j { history = append_assoc j.history es fs i }
-
-pub live_record : (r : Record) → IsRecord r → (landed : List Entry) (steps : ℕ) → IsRecord (live_done landed steps r).1
-live_record r h landed steps = search (arith, rules)

@@ -1,6 +1,6 @@
 -- What is sent to the backup, what it gets, and what the primary gets of it. `X_done` is an event's reply, with the record after it, and
 -- the only place that spells them; `on_X` is the event, refused or done.
-use Rattle.std.specs.Prelude.{ℕ, ◌-◌, ◌==◌, not, nat_lt, if◌then◌else◌, List, [], ◌∷◌, length, Option, None, Some}
+use Rattle.std.specs.Prelude.{ℕ, ◌-◌, ◌==◌, ◌&&◌, not, nat_lt, nat_le, Bool, if◌then◌else◌, List, [], ◌∷◌, length, Option, None, Some}
 use Rattle.frame_ports.specs.Addresses.{targets_of}
 use Rattle.frame_ports.specs.Lands.{put_count}
 use Rattle.output_gate.specs.Epochs.{frames_to, after_number}
@@ -61,6 +61,17 @@ let_go boxes r n = targets_of (length boxes) (frames_to n r.pending)
 
 abbrev pub ack_refusals : List (List Frame) → Record → Packet → List Row
 ack_refusals boxes r p = (not (p.generation == r.generation), Stale) ∷ (exhausts r (length (let_go boxes r p.number)), Exhausted) ∷ []
+
+-- A call is refused, besides, beyond the last commit, which no packet of a world's line names; and where frames leave and the word that
+-- counts the caller's steps is full.
+abbrev pub acknowledge_refusals : Bool → List (List Frame) → Record → Packet → List Row
+acknowledge_refusals word_full boxes r p =
+    let leaving = length (let_go boxes r p.number) in
+    (not (p.generation == r.generation), Stale)
+    ∷ (nat_le r.window.to_commit p.number, Gap)
+    ∷ (exhausts r leaving, Exhausted)
+    ∷ (nat_lt 0 leaving && word_full, Exhausted)
+    ∷ []
 
 -- the checkpoints up to that number are no longer pending, and their frames land
 abbrev pub ack_done : List (List Frame) → Record → ℕ → Outcome

@@ -1,6 +1,6 @@
 -- What fails, and what follows: the primary stops or the backup does, the backup goes live, a node that is alone gets a new backup.
 -- `X_done` is an event's reply, with the record after it, and the only place that spells them; `on_X` is the event, refused or done.
-use Rattle.std.specs.Prelude.{ℕ, ◌+◌, ◌-◌, nat_le, List, [], ◌∷◌, ◌++◌, length}
+use Rattle.std.specs.Prelude.{ℕ, ◌+◌, ◌-◌, nat_le, Bool, List, [], ◌∷◌, ◌++◌, length}
 use Rattle.frame_ports.specs.Addresses.{targets_of}
 use Rattle.frame_ports.specs.Lands.{put_count}
 use Rattle.frame_ports.specs.Limits.{number_limit}
@@ -34,6 +34,10 @@ all_held boxes outbox r = targets_of (length boxes) (frames_of r.pending ++ outb
 
 abbrev pub fail_backup_refusals : List (List Frame) → List Frame → Record → List Row
 fail_backup_refusals boxes outbox r = (exhausts r (length (all_held boxes outbox r)), Exhausted) ∷ []
+
+-- what refuses it while the guest is in an epoch, whose frames stay with it; so does a word of the caller's steps that is full
+abbrev pub fail_within_refusals : Bool → List (List Frame) → Record → List Row
+fail_within_refusals word_full boxes r = fail_backup_refusals boxes [] r ++ (word_full, Exhausted) ∷ []
 
 -- what was sealed goes to the history, and behind it this epoch, and what leaves lands; this runs on
 abbrev pub landed_after : List Entry → List Entry → List (List Frame) → List (ℕ × Frame) → Journal → Journal

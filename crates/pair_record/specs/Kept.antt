@@ -22,6 +22,14 @@ pub record Brings (r : Record) (p : PortsState) (first : ℕ) (lists : List (Lis
   pub number : first + length older ≡ first_held r
   pub came : AreOld p first older
 
+-- These lists, whose first frame has that number, end so, epoch by epoch; the frames of the older ones have come for each of their clients;
+-- and behind all of them comes the first frame that isn't committed.
+pub record EndOwed (r : Record) (p : PortsState) (first : ℕ) (lists : List (List Frame)) : Type 0 where
+  pub older : List (List Frame)
+  pub all : lists ≡ older ++ frames_by_epoch (committed_of r.window r.pending)
+  pub came : AreOld p first (all_frames older)
+  pub count : first + length (all_frames lists) ≡ first_uncommitted r
+
 -- WHERE THE BACKUP GOES LIVE, whatever it brings: of its frames, the first of which has that number, those land for whom they are new that
 -- have no later number than the last frame of a committed checkpoint
 

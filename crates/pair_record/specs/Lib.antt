@@ -1,4 +1,5 @@
 pub mod internal
+pub mod laws
 pub mod Window
 pub mod Modes
 pub mod Tables
@@ -10,11 +11,14 @@ pub mod EpochActs
 pub mod Protocol
 pub mod Record
 pub mod Kept
+pub mod Accords
 pub mod Limits
 pub mod Refusals
 -- what public clauses cite of lower crates
 pub use Rattle.pair_journal.specs.Journal
 pub use Rattle.pair_journal.specs.laws.Joined
+pub use Rattle.pair_journal.specs.laws.Epochs
+pub use Rattle.pair_journal.specs.laws.Landed
 pub use Rattle.pair_history.specs.Entries
 pub use Rattle.pair_history.specs.HistoryState
 pub use Rattle.failover.specs.Changes

@@ -17,14 +17,15 @@ pub use Rattle.pair_record.specs.Tables.{entry_refusals, frames_run_out, is_amon
 pub use Rattle.pair_record.specs.GuestActs.{step_room, step_refusals, step_entries, step_done, on_step, cut_refusals}
 pub use Rattle.pair_record.specs.GuestActs.{seal_done, cut_done, on_cut}
 pub use Rattle.pair_record.specs.BackupActs.{send_done, on_send, backup_refusals, again_done, commit_done, backup_done, backup_outcome}
-pub use Rattle.pair_record.specs.BackupActs.{on_backup_get, let_go, ack_refusals, ack_done, ack_outcome, on_ack_get}
+pub use Rattle.pair_record.specs.BackupActs.{on_backup_get, let_go, ack_refusals, acknowledge_refusals, ack_done, ack_outcome, on_ack_get}
 pub use Rattle.pair_record.specs.ClientActs.{admit_refusals, arrival_refusals, arrival_done, admit_done}
 pub use Rattle.pair_record.specs.ClientActs.{admit_first, on_admit}
 pub use Rattle.pair_record.specs.ClientActs.{is_bad_length, deliver_refusals, RefusesDelivery, delivery_refused, deliver_done, on_deliver}
 pub use Rattle.pair_record.specs.ClientActs.{take_refusals}
 pub use Rattle.pair_record.specs.ClientActs.{take_done, on_take, loss_refusals, loss_done, loss_of, loss_reply, on_loss, lost_in, lost_out}
 pub use Rattle.pair_record.specs.ClientActs.{on_lose_in, on_lose_out}
-pub use Rattle.pair_record.specs.FailureActs.{fail_primary_done, on_fail_primary, all_held, fail_backup_refusals, fail_backup_done}
+pub use Rattle.pair_record.specs.FailureActs.{fail_primary_done, on_fail_primary, all_held, fail_backup_refusals, fail_within_refusals}
+pub use Rattle.pair_record.specs.FailureActs.{fail_backup_done}
 pub use Rattle.pair_record.specs.FailureActs.{on_fail_backup, live_entries, go_live_refusals, go_live_done, on_go_live, protect_refusals}
 pub use Rattle.pair_record.specs.FailureActs.{landed_after, failure_done, begin_done, full_done, protect_done, on_protect}
 

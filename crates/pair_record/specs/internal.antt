@@ -1,3 +1,2 @@
 -- what only models, private functions and proofs cite
-pub mod Accords
 pub mod RecordFields

@@ -1,5 +1,5 @@
 //! The pair's record: all of a pair but its machines.
-ghost use Rattle.std.specs.Prelude.{◌≡◌, ℕ, ◌+◌, ◌-◌, ◌*◌, ◌^◌, ◌≤◌, ◌<◌, ◌++◌, ◌∷◌, [], length, replicate, All, IfOk, OnOk, OnErr};
+ghost use Rattle.std.specs.Prelude.{◌≡◌, ℕ, ◌+◌, ◌-◌, ◌*◌, ◌^◌, ◌≤◌, ◌<◌, ◌++◌, ◌∷◌, [], length, replicate, All, IfOk, IfErr, OnOk, OnErr};
 ghost use Rattle.std.specs.Prelude.{None, Some, false};
 ghost use Rattle.frame_ports.specs.Addresses.{IsFrame};
 ghost use Rattle.frame_ports.specs.Ports.{empty_ports};
@@ -10,7 +10,9 @@ ghost use Rattle.pair_record.specs.Modes.{is_stopped as stopped, is_alone as alo
 ghost use Rattle.failover.specs.declared.change.Change.TheVariants as changes;
 ghost use Rattle.pair_record.specs.Protocol.{exhausts, frames_run_out as runs_out, is_among, first_refusal};
 ghost use Rattle.pair_record.specs.Protocol.{step_refusals, cut_refusals, cut_done, send_done};
-ghost use Rattle.pair_record.specs.Protocol.{backup_refusals, again_done, commit_done, ack_refusals, ack_done, let_go, fail_primary_done};
+ghost use Rattle.pair_record.specs.Protocol.{backup_refusals, again_done, commit_done, acknowledge_refusals, ack_done, let_go};
+ghost use Rattle.pair_record.specs.Protocol.{Refuses, fail_primary_done};
+ghost use Rattle.pair_record.specs.declared.event.Reply.TheVariants as replies;
 ghost use Rattle.pair_record.specs.Record.{IsRecord, IsAsBefore, AreNumbered, start_record, ports_after_ack};
 
 mod alone;
@@ -36,8 +38,9 @@ use std::marker::Model;
 /// The mode and the generation, the journal, the window of checkpoints, the gate and the clients' ports: no machine, page, image
 /// or packet. Contracts see it as a `RecordState` of the specs.
 ///
-/// What a client or its line does is one call, refused by the first row of its table of refusals that applies, or done. Where a machine has
-/// its part in an event, a `.._refusal` answers that row, and the event itself asks that none applies.
+/// What a client or its line does is one call, refused by the first row of its table of refusals that applies, or done; so are an
+/// acknowledgement and the backup's failure. Where a machine's part comes between, a `.._refusal` answers that row, and the event itself
+/// asks that none applies.
 ///
 /// A call that answers a [`MemoryWanted`] was refused a growth; the record and the ports are as they were then.
 #[derive(Drop)]
@@ -309,48 +312,46 @@ impl PairRecord {
     }
 
     /// How many frames leave the gate where the checkpoints up to this number are acknowledged, each counted for each of its clients.
-    pub fn leaving(&self, number: u64) -> u64
+    fn leaving(&self, number: u64) -> u64
         ensures { result ≡ length (let_go self.now.ports.boxes self.now.protocol number) }
     {
         count_landings(&self.ports, self.gate.held(number))
     }
 
-    /// Why the primary refuses an acknowledgement.
-    pub fn ack_refusal(&self, packet: Packet) -> Option<Refusal>
-        ensures refusal { result ≡ first_refusal (ack_refusals self.now.ports.boxes self.now.protocol packet) }
-        // What is true of every record.
-        ensures record { IsRecord self.now.protocol }
+    /// The checkpoints up to this packet's are no longer pending, and their frames land. Answers how many landed, each counted for each
+    /// client whose box took it.
+    ///
+    /// # Errors
+    ///
+    /// In this order: [`Refusal::Stale`] for another generation; [`Refusal::Gap`] beyond the last commit; [`Refusal::Exhausted`] where the
+    /// history would reach 2^62, and where frames leave and the word that counts the caller's steps is full. [`Refusal::NoMemory`] where
+    /// frames leave and the room for their entries can't be had.
+    pub fn acknowledge(&mut self, packet: Packet, word_full: bool) -> Result<u64, Refusal>
+        ensures done { IfOk result (λ landed. (replies.Acked packet.generation packet.number landed, self.new.protocol)
+            ≡ ack_done self.old.ports.boxes self.old.protocol packet.number) }
+        ensures ports { OnOk result (self.new.ports ≡ ports_after_ack self.old.ports self.old.protocol packet.number) }
+        ensures free { OnOk result (first_refusal (acknowledge_refusals word_full self.old.ports.boxes self.old.protocol packet) ≡ None) }
+        ensures why { IfErr result (Refuses (acknowledge_refusals word_full self.old.ports.boxes self.old.protocol packet)
+            (0 < length (let_go self.old.ports.boxes self.old.protocol packet.number))) }
+        ensures refused { OnErr result (IsAsBefore self.old self.new) }
     {
         if packet.generation != self.generation {
-            Some(Refusal::Stale)
-        } else if self.is_exhausted_by(self.leaving(packet.number)) {
-            Some(Refusal::Exhausted)
-        } else {
-            None
+            return Err(Refusal::Stale);
         }
-    }
-
-    /// The checkpoints up to this packet's are no longer pending, and their frames land.
-    pub fn acknowledge(&mut self, packet: Packet) -> Result<Reply, MemoryWanted>
-        requires free { first_refusal (ack_refusals self.old.ports.boxes self.old.protocol packet) ≡ None }
-        requires committed { packet.number < self.old.protocol.window.to_commit }
-        ensures ok { IfOk result (λ reply. (reply, self.new.protocol) ≡ ack_done self.old.ports.boxes self.old.protocol packet.number) }
-        ensures ports { OnOk result (self.new.ports ≡ ports_after_ack self.old.ports self.old.protocol packet.number) }
-        ensures err { OnErr result (IsAsBefore self.old self.new) }
-        ensures some { OnErr result (0 < length (let_go self.old.ports.boxes self.old.protocol packet.number)) }
-    {
         let number = packet.number;
+        if number >= self.window.to_commit {
+            return Err(Refusal::Gap);
+        }
         let count = self.leaving(number);
+        if self.is_exhausted_by(count) || count > 0 && word_full {
+            return Err(Refusal::Exhausted);
+        }
         self.journal.reserve(count as usize)?;
         let landed = self
             .journal
             .land(&mut self.ports, self.gate.first(), self.gate.held(number));
         self.gate.let_go(number);
         self.window.acknowledge(number);
-        Ok(Reply::Acked {
-            generation: self.generation,
-            number,
-            landed: landed.landed,
-        })
+        Ok(landed.landed)
     }
 }

@@ -73,10 +73,10 @@ fn sealed(rt: &impl Abort, alloc: Global) -> Box<PairRecord> {
 
 /// The backup fails within an epoch.
 fn fail_backup(rt: &impl Abort, record: &mut PairRecord) -> Reply {
-    if is_alone(record.mode()) || record.fail_backup_refusal(&[]).is_some() {
+    if is_alone(record.mode()) {
         panic!(rt; "the backup can't fail");
     }
-    made(rt, record.fail_backup_within())
+    made(rt, record.fail_backup_within(false))
 }
 
 /// An epoch of two steps enters the history.

@@ -4,7 +4,7 @@ use Rattle.std.{proofs.{Common.{subst, append_assoc, append-nil}, lemmas.List.El
 use Rattle.std.specs.{Prelude.replicate, List.AllByRecursion}
 use Rattle.pair_record.specs.declared.event.{Event.Event, Reply.Reply}
 use Rattle.pair_core.specs.{HistoryState.HistoryState, Calls.Moment, Pair.Pair, Service.{Serves, HasServed, ServesSteps, is_step, moment}}
-use Rattle.pair_core.proofs.AlongLaws.{along-append, along-more}
+use Rattle.pair_core.specs.laws.Along.{along-append, along-more}
 use Rattle.script_player.specs.{Boot.{BootLine, IsBoot}, Lines.{Line, order}}
 use Rattle.script_player.specs.Meaning.{Ending, GoesOn, IsAnswered, IsLine, IsReady, Means, Stage, Steps, bad, finished, is_silent, playing}
 use Rattle.script_player.specs.{Meaning.{refused, unbooted}, Scripts.{AreSilent, AreSteps, BootsNone, Ends, IsOneRun, Played, Plays}}

@@ -3,7 +3,7 @@ use Rattle.std.specs.Prelude.{◌≡◌, List, length, map}
 use Rattle.frame_ports.specs.Ports.{PortsState}
 use Rattle.pair_history.specs.Entries.{Entry, Arrive}
 use Rattle.pair_history.specs.HistoryState.{HistoryState}
-use Rattle.pair_record.specs.internal.Accords.{Accords}
+use Rattle.pair_record.specs.Accords.{Accords}
 use Rattle.pair_record.specs.Protocol.{Record}
 use Rattle.pair_record.specs.Record.{RecordState}
 use Rattle.growing_history.specs.Steps.{Step}

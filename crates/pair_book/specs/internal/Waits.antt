@@ -4,7 +4,7 @@ use Rattle.frame_ports.specs.Ports.{PortsState}
 use Rattle.pair_history.specs.Failures.{arrived_numbers}
 use Rattle.pair_history.specs.Reached.{AreRising}
 use Rattle.pair_history.specs.Waits.{AllWait}
-use Rattle.pair_record.specs.internal.Accords.{AreInboxes}
+use Rattle.pair_record.specs.Accords.{AreInboxes}
 use Rattle.growing_history.specs.LogState.{LogState, under_way}
 pub use Rattle.pair_book.specs.Books.{waits_at_last}
 

@@ -2,7 +2,7 @@
 use Rattle.pair_history.specs.HistoryState.{start_state}
 use Rattle.pair_core.specs.declared.world.World.TheInside.{Inside}
 use Rattle.pair_core.specs.Pair.{Pair}
-use Rattle.pair_core.specs.internal.Invariant.{Holds}
+use Rattle.pair_core.specs.Invariant.{Holds}
 
 abbrev pub pair_of : Inside → Pair
 pair_of a = record {

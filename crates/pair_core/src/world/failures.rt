@@ -8,7 +8,7 @@ ghost use Rattle.pair_core.specs.Leaves.{Leaves};
 
 use super::World;
 use memory_wanted::MemoryWanted;
-use pair_record::Reply;
+use pair_record::{Refusal, Reply};
 
 impl World {
     /// The primary stops.
@@ -31,12 +31,17 @@ impl World {
         ensures err { OnErr result (self.new ≡ self.old) }
     {
         self.record.keep();
-        if let Some(why) = self.record.fail_backup_refusal(self.nodes.outbox()) {
+        let why = match self.record.fail_backup(self.nodes.outbox()) {
+            Ok(reply) => {
+                self.nodes.leave_alone();
+                return Ok(reply);
+            }
+            Err(why) => why,
+        };
+        let Refusal::NoMemory(wanted) = why else {
             return Ok(Reply::Refused(why));
-        }
-        let reply = self.record.fail_backup(self.nodes.outbox())?;
-        self.nodes.leave_alone();
-        Ok(reply)
+        };
+        Err(wanted)
     }
 
     /// The backup goes live in the place of the stopped primary.

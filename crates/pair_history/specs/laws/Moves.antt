@@ -1,6 +1,6 @@
 -- Laws of what epochs keep. What a client does changes places with it: it is the state behind the moves alone that the moves
 -- say (`at-moves`), and what is delivered in between only waits behind (`AllCan-more`, `left-more`).
-use Rattle.std.proofs.Common.{◌≡◌, ℕ, ◌≤◌, List, [], ◌∷◌, ◌++◌, length, refl, sym, ap, ◌∙◌, arith, append_assoc}
+use Rattle.std.proofs.Common.{◌≡◌, ℕ, zero, suc, ◌≤◌, List, [], ◌∷◌, ◌++◌, length, replicate, refl, sym, ap, ◌∙◌, arith, append_assoc}
 use Rattle.guest_machine.specs.Guest.{Guest}
 use Rattle.guest_machine.specs.Step.{sent}
 use Rattle.frame_ports.specs.Addresses.{targets_of}
@@ -109,3 +109,17 @@ pub AreGuests-moves : (ms : List Move) → AreGuests (entries_of ms)
 AreGuests-moves [] = tt
 AreGuests-moves (Steps ∷ ms) = (tt, AreGuests-moves ms)
 AreGuests-moves (Arrives n f ∷ ms) = (tt, AreGuests-moves ms)
+
+-- STEPS are moves
+
+pub entries-steps : (n : ℕ) → replicate n Ran ≡ entries_of (replicate n Steps)
+entries-steps zero = refl
+entries-steps (suc n) = ap (λ t. Ran ∷ t) (entries-steps n)
+
+pub can-steps : (n : ℕ) (ws : List Waiting) → AllCan ws (replicate n Steps)
+can-steps zero ws = tt
+can-steps (suc n) ws = (tt, can-steps n ws)
+
+pub left-steps : (n : ℕ) (ws : List Waiting) → left ws (replicate n Steps) ≡ ws
+left-steps zero ws = refl
+left-steps (suc n) ws = left-steps n ws

@@ -1,5 +1,6 @@
 //! What happens at the record where a node goes on alone.
-ghost use Rattle.std.specs.Prelude.{◌≡◌, ◌+◌, ◌*◌, ◌<◌, ◌≤◌, ◌++◌, [], length, replicate, All, IfOk, OnOk, OnErr, None, false, true};
+ghost use Rattle.std.specs.Prelude.{◌≡◌, ◌+◌, ◌*◌, ◌<◌, ◌≤◌, ◌++◌, [], length, replicate, All, IfOk, IfErr, OnOk, OnErr, None, ⊤, false};
+ghost use Rattle.std.specs.Prelude.{true};
 ghost use Rattle.frame_ports.specs.Addresses.{IsFrame, targets_of};
 ghost use Rattle.frame_ports.specs.Limits.{max_clients, number_limit};
 ghost use Rattle.pair_history.specs.Entries.{Ran};
@@ -7,7 +8,8 @@ ghost use Rattle.pair_history.specs.Landings.{landings};
 ghost use Rattle.pair_record.specs.EpochActs.{fail_within_done};
 ghost use Rattle.pair_journal.specs.Journal.{all_entries, with_history};
 ghost use Rattle.pair_record.specs.Modes.{is_alone};
-ghost use Rattle.pair_record.specs.Protocol.{frames_run_out, first_refusal, fail_backup_refusals, fail_backup_done, all_held};
+ghost use Rattle.pair_record.specs.Protocol.{frames_run_out, first_refusal, Refuses, fail_backup_refusals, fail_within_refusals};
+ghost use Rattle.pair_record.specs.Protocol.{fail_backup_done, all_held};
 ghost use Rattle.pair_record.specs.Record.{IsAsBefore, ports_landed, ports_after_all};
 
 use super::PairRecord;
@@ -29,22 +31,13 @@ impl PairRecord {
         count_landings(&self.ports, held) + count_landings(&self.ports, outbox)
     }
 
-    /// Why the backup's failure is refused, where the guest's outbox holds these frames.
-    pub fn fail_backup_refusal(&self, outbox: &[Frame]) -> Option<Refusal>
-        requires few { length outbox.now ≤ 256 }
-        ensures refusal { result ≡ first_refusal (fail_backup_refusals self.now.ports.boxes outbox.now self.now.protocol) }
-    {
-        if self.is_exhausted_by(self.count_all(outbox)) {
-            Some(Refusal::Exhausted)
-        } else {
-            None
-        }
-    }
-
     /// The backup stops: all that was kept goes to the history, the pending checkpoints are given up, and what the gate held, and then the
     /// outbox, lands. Where a full checkpoint has still to be sealed, [`PairRecord::fail_backup_within`] does.
-    pub fn fail_backup(&mut self, outbox: &[Frame]) -> Result<Reply, MemoryWanted>
-        requires free { first_refusal (fail_backup_refusals self.old.ports.boxes outbox.now self.old.protocol) ≡ None }
+    ///
+    /// # Errors
+    ///
+    /// [`Refusal::Exhausted`] where the history would reach 2^62; [`Refusal::NoMemory`] where the room in it can't be had.
+    pub fn fail_backup(&mut self, outbox: &[Frame]) -> Result<Reply, Refusal>
         requires pair { is_alone self.old.protocol.mode ≡ false }
         requires sealed { 1 ≤ self.old.protocol.window.to_cut }
         requires few { length outbox.now ≤ 256 }
@@ -52,10 +45,15 @@ impl PairRecord {
         ensures ok { IfOk result (λ reply. (reply, self.new.protocol)
             ≡ fail_backup_done self.old.ports.boxes outbox.now self.old.protocol) }
         ensures ports { OnOk result (self.new.ports ≡ ports_after_all self.old.ports outbox.now self.old.protocol) }
-        ensures err { OnErr result (IsAsBefore self.old self.new) }
+        ensures free { OnOk result (first_refusal (fail_backup_refusals self.old.ports.boxes outbox.now self.old.protocol) ≡ None) }
+        ensures why { IfErr result (Refuses (fail_backup_refusals self.old.ports.boxes outbox.now self.old.protocol) ⊤) }
+        ensures refused { OnErr result (IsAsBefore self.old self.new) }
     {
         let number = self.window.to_cut;
         let count = self.count_all(outbox);
+        if self.is_exhausted_by(count) {
+            return Err(Refusal::Exhausted);
+        }
         self.journal.commit_all(count as usize)?;
         self.gate.hold(number, outbox);
         let landed = self
@@ -71,16 +69,24 @@ impl PairRecord {
     }
 
     /// The backup stops while the guest is in an epoch, which goes on: the pending checkpoints are given up, and what the gate held lands.
-    /// [`PairRecord::fail_backup_refusal`] of no frames says why that is refused.
-    pub fn fail_backup_within(&mut self) -> Result<Reply, MemoryWanted>
-        requires free { first_refusal (fail_backup_refusals self.old.ports.boxes [] self.old.protocol) ≡ None }
+    ///
+    /// # Errors
+    ///
+    /// In this order: [`Refusal::Exhausted`] where the history would reach 2^62, and where the word that counts the caller's steps is full;
+    /// [`Refusal::NoMemory`] where the room in the history can't be had.
+    pub fn fail_backup_within(&mut self, word_full: bool) -> Result<Reply, Refusal>
         requires pair { is_alone self.old.protocol.mode ≡ false }
         ensures ok { IfOk result (λ reply. (reply, self.new.protocol) ≡ fail_within_done self.old.ports.boxes self.old.protocol) }
         ensures ports { OnOk result (self.new.ports ≡ ports_after_all self.old.ports [] self.old.protocol) }
-        ensures err { OnErr result (IsAsBefore self.old self.new) }
+        ensures free { OnOk result (first_refusal (fail_within_refusals word_full self.old.ports.boxes self.old.protocol) ≡ None) }
+        ensures why { IfErr result (Refuses (fail_within_refusals word_full self.old.ports.boxes self.old.protocol) ⊤) }
+        ensures refused { OnErr result (IsAsBefore self.old self.new) }
     {
         let number = self.window.to_cut;
         let count = self.count_all(&[]);
+        if self.is_exhausted_by(count) || word_full {
+            return Err(Refusal::Exhausted);
+        }
         self.journal.commit_sealed(count as usize)?;
         let landed = self
             .journal

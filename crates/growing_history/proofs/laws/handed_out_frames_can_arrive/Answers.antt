@@ -1,4 +1,4 @@
-use Rattle.growing_history.proofs.Arrivals.{handed-legal, handed-leave, waits-numbered}
+use Rattle.growing_history.specs.laws.Arrivals.{handed-legal, handed-leave, waits-numbered}
 use Rattle.growing_history.proofs.laws.handed_out_frames_can_arrive.Goals as goal
 
 pub returns-clause-legal : goal.returns-clause-legal

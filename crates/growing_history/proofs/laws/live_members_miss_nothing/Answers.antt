@@ -1,7 +1,7 @@
 use Rattle.std.proofs.Common.{[], refl}
 use Rattle.growing_history.specs.LogState.{state_at}
 use Rattle.growing_history.proofs.Missed.{handed-stays, keeps-all, epochs-stay}
-use Rattle.growing_history.proofs.MissedByBackup.{backup-misses-nothing}
+use Rattle.growing_history.specs.laws.MissedByBackup.{backup-misses-nothing}
 use Rattle.growing_history.proofs.laws.live_members_miss_nothing.Goals as goal
 
 pub returns-clause-handed : goal.returns-clause-handed

@@ -2,7 +2,8 @@ use Rattle.std.proofs.Common.{◌++◌, map, sym, ap}
 use Rattle.pair_history.specs.Entries.{DropIn}
 use Rattle.pair_history.specs.Failures.{arrived_numbers, all_land}
 use Rattle.pair_history.specs.laws.Sorted.{rising-sorted}
-use Rattle.pair_history.proofs.FailureLaws.{go_live_leaves, go_live_stays}
+use Rattle.pair_history.specs.laws.GoingLive.{go_live_leaves}
+use Rattle.pair_history.proofs.FailureLaws.{go_live_stays}
 use Rattle.pair_history.proofs.failures.going_live_lands_what_is_owed.Goals as goal
 
 pub returns-clause-owed : goal.returns-clause-owed

@@ -1,4 +1,4 @@
-use Rattle.pair_history.proofs.DropLaws.{go_live-asked}
+use Rattle.pair_history.specs.laws.GoingLive.{go_live-asked}
 use Rattle.pair_history.proofs.laws.no_failure_loses_a_sent_frame.Goals as goal
 
 pub returns-clause-goes_live : goal.returns-clause-goes_live

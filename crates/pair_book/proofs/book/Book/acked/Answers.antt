@@ -1,8 +1,8 @@
 use Rattle.std.proofs.Common.{rules, arith, ◌≡◌, ◌++◌, [], drop, refl, ap}
 use Rattle.pair_record.specs.Protocol.{Outcome, Record}
 use Rattle.growing_history.specs.Views.{Keeper}
-use Rattle.pair_book.specs.{Packets.TextsState, internal.Tie.book_state}
-use Rattle.pair_book.proofs.FailureRows.{ack_may}
+use Rattle.pair_book.specs.{Packets.TextsState}
+use Rattle.pair_record.specs.laws.Tables.{acknowledge_free}
 use Rattle.pair_book.proofs.FailureTies.{landed_by, no-more, acked-gained, acked-tied, unmoved-tied}
 use Rattle.pair_book.proofs.CommittedTies.{acked-keeps, unmoved-keeps}
 use Rattle.pair_book.proofs.TextLaws.{texts-left, texts-added}
@@ -15,13 +15,13 @@ tell_alone-requires-clause-tied g c =
     let r = c.self.inside.record in
     let now = c.acknowledge.new.self in
     let n = c.args.ack.number in
-    let rows = ack_may (book_state c.self.inside.seats r c.self.inside.texts) c.args.ack (search rules) in
-    let is = ap (λ (o : Outcome). o.1) c.in_ok-reply.ensures.ok in
-    let ports = c.in_ok-reply.ensures.ports in
+    let rows = acknowledge_free _ r.ports.boxes r.protocol (record { generation = c.args.ack.generation; number = c.args.ack.number }) c.in_ok-count.ensures.free in
+    let is = ap (λ (o : Outcome). o.1) c.in_ok-count.ensures.done in
+    let ports = c.in_ok-count.ensures.ports in
     search (
       rules,
-      acked-gained start steps r.protocol now.protocol r.ports now.ports c.self.invariant.0 n c.keep.ensures.record rows.0 is ports,
-      acked-tied start steps r.protocol now.protocol r.ports now.ports c.self.invariant.0 n c.keep.ensures.record rows.0 is ports,
+      acked-gained start steps r.protocol now.protocol r.ports now.ports c.self.invariant.0 n c.keep.ensures.record rows.1 is ports,
+      acked-tied start steps r.protocol now.protocol r.ports now.ports c.self.invariant.0 n c.keep.ensures.record rows.1 is ports,
     )
 
 pub invariant_of-self-else-len-before : goal.invariant_of-self-else-len-before
@@ -31,19 +31,19 @@ invariant_of-self-else-len-before g c =
     let r = c.self.inside.record in
     let now = c.acknowledge.new.self in
     let n = c.args.ack.number in
-    let rows = ack_may (book_state c.self.inside.seats r c.self.inside.texts) c.args.ack (search rules) in
-    let is = ap (λ (o : Outcome). o.1) c.in_ok-reply.ensures.ok in
-    let ports = c.in_ok-reply.ensures.ports in
+    let rows = acknowledge_free _ r.ports.boxes r.protocol (record { generation = c.args.ack.generation; number = c.args.ack.number }) c.in_ok-count.ensures.free in
+    let is = ap (λ (o : Outcome). o.1) c.in_ok-count.ensures.done in
+    let ports = c.in_ok-count.ensures.ports in
     let grown : now.protocol.journal.history ≡ r.protocol.journal.history ++ landed_by r.ports.boxes r.protocol n =
     ap (λ (x : Record). x.journal.history) is in
     let none : landed_by r.ports.boxes r.protocol n ≡ [] =
     no-more r.protocol.journal.history now.protocol.journal.history (landed_by r.ports.boxes r.protocol n) grown
     (search (rules, arith, c.if-len-before.false)) in (
-      unmoved-tied start steps r.protocol now.protocol r.ports now.ports c.self.invariant.0 n c.keep.ensures.record rows.0 is ports none,
+      unmoved-tied start steps r.protocol now.protocol r.ports now.ports c.self.invariant.0 n c.keep.ensures.record rows.1 is ports none,
       unmoved-keeps start steps r.protocol now.protocol r.ports now.ports c.self.invariant.1 0 n c.keep.ensures.record
-          c.keep.ensures.numbers c.keep.ensures.clients rows.0 is ports,
+          c.keep.ensures.numbers c.keep.ensures.clients rows.1 is ports,
       texts-left start steps r.protocol now.protocol c.self.inside.texts.packets c.drop_to.new.self.packets c.self.invariant.2
-          c.keep.ensures.record n rows.0 (ap (λ (x : Record). x.generation) is) (ap (λ (x : Record). x.window) is)
+          c.keep.ensures.record n rows.1 (ap (λ (x : Record). x.generation) is) (ap (λ (x : Record). x.window) is)
           (ap (λ (t : TextsState). t.packets) c.drop_to.ensures),
     )
 
@@ -54,10 +54,10 @@ invariant_of-self-then-len-before g c =
     let r = c.self.inside.record in
     let now = c.acknowledge.new.self in
     let n = c.args.ack.number in
-    let rows = ack_may (book_state c.self.inside.seats r c.self.inside.texts) c.args.ack (search rules) in
-    let is = ap (λ (o : Outcome). o.1) c.in_ok-reply.ensures.ok in
+    let rows = acknowledge_free _ r.ports.boxes r.protocol (record { generation = c.args.ack.generation; number = c.args.ack.number }) c.in_ok-count.ensures.free in
+    let is = ap (λ (o : Outcome). o.1) c.in_ok-count.ensures.done in
     let left = texts-left start steps r.protocol now.protocol c.self.inside.texts.packets c.drop_to.new.self.packets c.self.invariant.2
-    c.keep.ensures.record n rows.0 (ap (λ (x : Record). x.generation) is) (ap (λ (x : Record). x.window) is)
+    c.keep.ensures.record n rows.1 (ap (λ (x : Record). x.generation) is) (ap (λ (x : Record). x.window) is)
     (ap (λ (t : TextsState). t.packets) c.drop_to.ensures) in (
       c.tell_alone.ensures.tied,
       c.tell_alone.ensures.committed,
@@ -72,11 +72,11 @@ tell_alone-requires-clause-committed g c =
     let r = c.self.inside.record in
     let now = c.acknowledge.new.self in
     let n = c.args.ack.number in
-    let rows = ack_may (book_state c.self.inside.seats r c.self.inside.texts) c.args.ack (search rules) in
-    let is = ap (λ (o : Outcome). o.1) c.in_ok-reply.ensures.ok in
-    let ports = c.in_ok-reply.ensures.ports in
+    let rows = acknowledge_free _ r.ports.boxes r.protocol (record { generation = c.args.ack.generation; number = c.args.ack.number }) c.in_ok-count.ensures.free in
+    let is = ap (λ (o : Outcome). o.1) c.in_ok-count.ensures.done in
+    let ports = c.in_ok-count.ensures.ports in
     search (
       rules,
       acked-keeps start steps r.protocol now.protocol r.ports now.ports c.self.invariant.1 0 n c.keep.ensures.record
-          c.keep.ensures.numbers c.keep.ensures.clients rows.0 is ports,
+          c.keep.ensures.numbers c.keep.ensures.clients rows.1 is ports,
     )

@@ -1,7 +1,7 @@
 use Rattle.std.proofs.Common.{rules, ℕ, ◌≤◌, ap, drop, length, subst}
 use Rattle.frame_ports.specs.{Lands.list_of, Limits.inbox_frames}
 use Rattle.pair_record.specs.Protocol.{Outcome, Record}
-use Rattle.pair_record.proofs.ClientLaws.{delivery_free, delivery_full}
+use Rattle.pair_record.specs.laws.Tables.{delivery_free, delivery_full}
 use Rattle.growing_history.specs.Views.{Keeper}
 use Rattle.pair_book.specs.Calls.{client_of}
 use Rattle.pair_book.proofs.{CommittedTies.{delivered-keeps, refused-keeps}, TextLaws.texts-added}

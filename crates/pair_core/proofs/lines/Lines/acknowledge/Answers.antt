@@ -1,6 +1,6 @@
 use Rattle.std.proofs.Common.{rules, arith, [], ◌∷◌}
 use Rattle.pair_core.specs.Lines.{packet}
-use Rattle.pair_core.proofs.LineLaws.{packets_of-sent, keeps_all-sent}
+use Rattle.pair_core.specs.laws.Lines.{packets_of-sent, keeps_all-sent}
 use Rattle.pair_core.proofs.lines.Lines.acknowledge.Goals as goal
 
 pub invariant_of-self : goal.invariant_of-self

@@ -1,5 +1,5 @@
 use Rattle.std.proofs.Common.{rules, arith}
-use Rattle.pair_core.proofs.LineLaws.{packet-at}
+use Rattle.pair_core.specs.laws.Lines.{packet-at}
 use Rattle.pair_core.proofs.lines.Lines.packet.Goals as goal
 
 pub returns : goal.returns

@@ -1,5 +1,5 @@
 use Rattle.std.proofs.Common.{rules, arith}
-use Rattle.pair_core.proofs.LineLaws.{on_ok, packets_of-sent, keeps_all-after}
+use Rattle.pair_core.specs.laws.Lines.{on_ok, packets_of-sent, keeps_all-after}
 use Rattle.pair_core.proofs.lines.Lines.send.Goals as goal
 
 pub invariant_of-self : goal.invariant_of-self

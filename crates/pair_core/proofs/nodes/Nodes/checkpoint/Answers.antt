@@ -1,6 +1,7 @@
 use Rattle.std.proofs.{Common.{rules, ℕ, subst, arith}, lemmas.Result.{IfOk-weaker}}
 use Rattle.pair_core.specs.{internal.NodesFields.image_or, Texts.IsText}
-use Rattle.pair_core.proofs.{Calls.on_ok, NodesLaws.{base-of, delta-text}}
+use Rattle.pair_core.proofs.Calls.{on_ok}
+use Rattle.pair_core.specs.laws.Nodes.{base-of, delta-text}
 use Rattle.pair_core.proofs.nodes.Nodes.checkpoint.Goals as goal
 
 pub returns-clause-text : goal.returns-clause-text

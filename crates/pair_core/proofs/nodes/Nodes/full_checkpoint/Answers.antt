@@ -2,7 +2,7 @@ use Rattle.std.proofs.Common.{[], length, replicate}
 use Rattle.guest_machine.specs.Guest.{sector_count}
 use Rattle.epoch_snapshot.specs.Cuts.{used_sectors}
 use Rattle.pair_core.specs.internal.NodesFields.{image_or}
-use Rattle.pair_core.proofs.NodesLaws.{delta-text}
+use Rattle.pair_core.specs.laws.Nodes.{delta-text}
 use Rattle.pair_core.proofs.nodes.Nodes.full_checkpoint.Goals as goal
 
 pub returns-clause-text : goal.returns-clause-text

@@ -1,5 +1,5 @@
 use Rattle.std.proofs.Common.{rules, arith}
-use Rattle.pair_core.proofs.NodesLaws.{few_sent}
+use Rattle.pair_core.specs.laws.Nodes.{few_sent}
 use Rattle.pair_core.proofs.nodes.Nodes.run_to_frame.Goals as goal
 
 pub returns-clause-few : goal.returns-clause-few

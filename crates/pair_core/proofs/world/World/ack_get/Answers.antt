@@ -1,41 +1,63 @@
-use Rattle.std.proofs.{Common.{arith, ◌≡◌, ℕ, ◌<◌, ◌∙◌, refl, sym, ap, length, Option, None, Some}, lemmas.List.length-append}
+use Rattle.std.proofs.{Common.{arith, ◌≡◌, ◌<◌, ◌∙◌, refl, sym, ap, false, Some}, lemmas.List.length-append}
 use Rattle.std.specs.Prelude.{slice_get}
 use Rattle.pair_history.specs.Landings.{landings}
-use Rattle.pair_record.specs.Protocol.{ack_done, ack_outcome, ack_refusals, let_go}
-use Rattle.pair_record.specs.declared.event.Packet.{Packet}
-use Rattle.pair_core.specs.{Answering.AddsEntries, internal.Invariant.Holds, Pair.{Pair, shown_state}}
+use Rattle.pair_record.specs.Protocol.{Outcome, first_refusal, ack_done, ack_outcome, ack_refusals, acknowledge_refusals, let_go}
+use Rattle.pair_record.specs.declared.event.Reply.TheVariants as replies
+use Rattle.pair_core.specs.{Answering.AddsEntries, Pair.{shown_state}}
 use Rattle.pair_record.specs.Record.{ports_after_ack}
 use Rattle.pair_core.specs.internal.WorldFields.{pair_of}
 use Rattle.pair_history.specs.laws.Landings.{length-landings}
-use Rattle.pair_core.proofs.{Calls.{after_call, on_err_so}, ClientEvents.ack_holds, LineLaws.below_at, Outcomes.goes}
-use Rattle.pair_record.proofs.RecordLaws.{passed, generation_is}
+use Rattle.pair_core.specs.laws.{Events.moved_to, ClientEvents.ack_holds, Lines.below_at}
+use Rattle.pair_core.proofs.{Calls.named, Outcomes.{goes, stops}}
+use Rattle.pair_record.specs.laws.Tables.{acknowledge_free, acknowledge_as}
+use Rattle.pair_core.proofs.world.World.ack_get.Goals.{In-Some}
 use Rattle.pair_core.proofs.world.World.ack_get.Goals as goal
 
--- an acknowledgement of this generation names a checkpoint that was committed
-below : (w : Pair) → Holds w → (k : ℕ) (p : Packet) (o : Option Packet) → o ≡ slice_get w.protocol.lines.back k → o ≡ Some p
-    → p.generation ≡ w.protocol.state.generation → p.number < w.protocol.state.window.to_commit
-below w h k p o e is same =
-    below_at w.protocol.state.generation w.protocol.state.window.to_commit w.protocol.lines.back k (Some p) h.lines.back (sym is ∙ e) same
+-- what came is on the line, and where it is of this generation it names a checkpoint that was committed
+there : (c : In-Some) → slice_get (pair_of c.self.inside).protocol.lines.back c.args.k ≡ Some c.in-Some.packet
+there c = sym c.acknowledgement.ensures ∙ c.in-Some.is
 
-pub acknowledge-requires-clause-committed : goal.acknowledge-requires-clause-committed
-acknowledge-requires-clause-committed c =
+below : (c : In-Some) → c.in-Some.packet.generation ≡ (pair_of c.self.inside).protocol.state.generation
+    → c.in-Some.packet.number < (pair_of c.self.inside).protocol.state.window.to_commit
+below c =
     let w = pair_of c.self.inside in
-    let p = c.in-Some.packet in
-    let same =
-    generation_is p.generation w.protocol.state.generation (passed _ _ _ (sym c.ack_refusal.ensures.refusal
-    ∙ c.in_default-ack_refusal.is)).0 in
-    below w c.self.invariant c.args.k p _ c.acknowledgement.ensures c.in-Some.is same
+    below_at w.protocol.state.generation w.protocol.state.window.to_commit w.protocol.lines.back c.args.k (Some c.in-Some.packet)
+    c.self.invariant.lines.back (sym (there c))
+
+-- the record's table is the world's
+table : (c : In-Some) → first_refusal (acknowledge_refusals false (pair_of c.self.inside).ports.boxes (pair_of c.self.inside).protocol.state c.in-Some.packet)
+    ≡ first_refusal (ack_refusals (pair_of c.self.inside).ports.boxes (pair_of c.self.inside).protocol.state c.in-Some.packet)
+table c = let w = pair_of c.self.inside in acknowledge_as w.ports.boxes w.protocol.state c.in-Some.packet (below c)
+
+-- what the protocol says of it
+seen : (c : In-Some) → (done : Outcome)
+    → done ≡ ack_outcome (pair_of c.self.inside).ports.boxes (pair_of c.self.inside).protocol.state (Some c.in-Some.packet)
+    → done ≡ ack_outcome (shown_state (pair_of c.self.inside)).boxes (pair_of c.self.inside).protocol.state
+    (slice_get (pair_of c.self.inside).protocol.lines.back c.args.k)
+seen c done is =
+    let w = pair_of c.self.inside in
+    is ∙ ap (λ bs. ack_outcome bs w.protocol.state (Some c.in-Some.packet)) c.self.invariant.accords.clients.boxes
+    ∙ ap (ack_outcome (shown_state w).boxes w.protocol.state) (sym (there c))
 
 pub invariant_of-self : goal.invariant_of-self
 invariant_of-self c =
     let w = pair_of c.self.inside in
     let p = c.in-Some.packet in
-    let same =
-    generation_is p.generation w.protocol.state.generation (passed _ _ _ (sym c.ack_refusal.ensures.refusal ∙ c.in_default-ack_refusal.is)).0 in
-    after_call w c.self.invariant c.acknowledge.new.self c.acknowledge.result (ack_done w.ports.boxes w.protocol.state p.number)
-    (ports_after_ack w.ports w.protocol.state p.number)
-    c.acknowledge.ensures.ok c.acknowledge.ensures.ports c.acknowledge.ensures.err
-    (ack_holds w c.self.invariant c.ack_refusal.ensures.record c.keep.ensures.numbers c.keep.ensures.clients p.number (below w c.self.invariant c.args.k p _ c.acknowledgement.ensures c.in-Some.is same))
+    let free = acknowledge_free false w.ports.boxes w.protocol.state p c.in-Ok.ensures.free in
+    moved_to w c.acknowledge.new.self.protocol (ack_done w.ports.boxes w.protocol.state p.number).1 c.acknowledge.new.self.ports
+    (ports_after_ack w.ports w.protocol.state p.number) (ap (λ (o : Outcome). o.1) c.in-Ok.ensures.done) c.in-Ok.ensures.ports
+    (ack_holds w c.self.invariant c.keep.ensures.record c.keep.ensures.numbers c.keep.ensures.clients p.number free.1)
+
+pub returns-in_default-why-clause-outcome : goal.returns-in_default-why-clause-outcome
+returns-in_default-why-clause-outcome c =
+    let w = pair_of c.self.inside in
+    let p = c.in-Some.packet in
+    let at = (goal.at.returns-in_default-why-clause-outcome c).In-Some in
+    let rows = ack_refusals w.ports.boxes w.protocol.state p in
+    let first = named (acknowledge_refusals false w.ports.boxes w.protocol.state p) _ c.in-Err.why c.in_default-why.not-NoMemory c.in-Err.ensures.why in
+    (λ i. (replies.Refused c.in-Err.why, c.in-Err.ensures.refused.0 i))
+    ∙ rw (← c.self.view_is) (seen at _ (stops w.protocol.state rows (ack_done w.ports.boxes w.protocol.state p.number) _ c.in-Err.why refl
+    (sym (table at) ∙ first)))
 
 -- it adds an entry for each frame that leaves
 pub returns-clause-memory : goal.returns-clause-memory
@@ -44,12 +66,10 @@ returns-clause-memory c =
     let r = w.protocol.state in
     let b = w.ports.boxes in
     let p = c.in-Some.packet in
+    let at = (goal.at.returns-clause-memory c).In-Some in
     let leaving = let_go b r p.number in
-    let there : slice_get w.protocol.lines.back c.args.k ≡ Some p = sym c.acknowledgement.ensures ∙ c.in-Some.is in
-    let goes_on =
-    goes r (ack_refusals b r p) (ack_done b r p.number) None (sym c.in_default-ack_refusal.is ∙ c.ack_refusal.ensures.refusal) refl
-    ∙ ap (λ bs. ack_outcome bs r (Some p)) c.self.invariant.accords.clients.boxes
-    ∙ ap (ack_outcome (shown_state w).boxes r) (sym there) in
-    let adds : 0 < length leaving → AddsEntries r (ack_done b r p.number).1 =
-    λ some. omega (arith, length-append r.journal.history (landings b leaving), length-landings b leaving) in
-    rw (← c.self.view_is) (rw (← goes_on) (on_err_so c.acknowledge.result (0 < length leaving) _ adds c.acknowledge.ensures.some))
+    let why = rw c.in-NoMemory.is at c.in-Err.ensures.why in
+    let goes_on = seen at _ (goes r (ack_refusals b r p) (ack_done b r p.number) _ refl (sym (table at) ∙ why.0)) in
+    let adds : AddsEntries r (ack_done b r p.number).1 =
+    omega (arith, length-append r.journal.history (landings b leaving), length-landings b leaving, why.1) in
+    rw (← c.self.view_is) (rw (← goes_on) adds)

@@ -1,7 +1,8 @@
 use Rattle.std.proofs.Common.{rules, arith, ◌∙◌, sym, subst, length}
-use Rattle.pair_core.specs.{internal.Invariant.Holds, internal.WorldFields.pair_of}
-use Rattle.pair_core.proofs.{Calls.on_err, AllLands.admitted_holds}
-use Rattle.pair_record.proofs.RecordLaws.{passed}
+use Rattle.pair_core.specs.{Invariant.Holds, internal.WorldFields.pair_of}
+use Rattle.pair_core.proofs.Calls.{on_err}
+use Rattle.pair_core.specs.laws.AllLands.{admitted_holds}
+use Rattle.pair_record.specs.laws.Tables.{passed}
 use Rattle.pair_core.proofs.Outcomes.{client_range, admit_empty, admit_stops, admit_goes, admit_wants}
 use Rattle.pair_record.specs.declared.event.Reply.TheVariants as replies
 use Rattle.pair_core.proofs.world.World.admit.Goals as goal

@@ -2,19 +2,20 @@ use Rattle.std.proofs.Common.{rules, ◌≡◌, ℕ, ◌+◌, ◌-◌, ◌<◌, 
 use Rattle.std.specs.Prelude.{slice_get}
 use Rattle.epoch_snapshot.specs.Checkpoints.{Change}
 use Rattle.pair_record.specs.{declared.event.Packet.Packet, declared.event.Refusal.Refusal}
-use Rattle.pair_core.specs.internal.Invariant.{Holds}
+use Rattle.pair_core.specs.Invariant.{Holds}
 use Rattle.pair_record.specs.{declared.event.Event.TheVariants.BackupGet, declared.event.Reply.Reply}
 use Rattle.pair_core.specs.Nodes.{Nodes, first_text}
 use Rattle.pair_record.specs.Modes.{is_alone, mode_refusal}
 use Rattle.pair_core.specs.{Pair.{Pair, shown_state}, Replication.Replicates}
 use Rattle.pair_record.specs.Protocol.{Record, Outcome, first_refusal, backup_refusals}
 use Rattle.pair_core.specs.internal.WorldFields.{pair_of}
-use Rattle.pair_record.proofs.ModeLaws.{backup_goes}
-use Rattle.pair_core.proofs.{ReplicationLaws.{after_commit, commit_replicates}, Consistent.in_mode}
+use Rattle.pair_record.specs.laws.Modes.{backup_goes}
+use Rattle.pair_core.proofs.ReplicationLaws.{after_commit, commit_replicates}
+use Rattle.pair_core.specs.laws.Consistent.{in_mode}
 use Rattle.pair_core.specs.Lines.{Lines, packet, with_back, lines_after}
-use Rattle.pair_core.proofs.{Events.{lines_hold, commit_holds, oldest_text}, LineLaws.{below_at, named-back}}
-use Rattle.pair_record.proofs.RecordLaws.{passed, generation_is, commit_record}
-use Rattle.pair_core.proofs.NodesLaws.{reads-whole, reads-shape}
+use Rattle.pair_core.specs.laws.{Events.{lines_hold, commit_holds, oldest_text}, Lines.{below_at, named-back}}
+use Rattle.pair_record.specs.laws.{Tables.{passed, same_generation}, Records.commit_record}
+use Rattle.pair_core.specs.laws.Nodes.{reads-whole, reads-shape}
 use Rattle.pair_core.proofs.world.World.backup_get.Goals.{After-commit-2}
 use Rattle.pair_core.proofs.world.World.backup_get.Goals as goal
 
@@ -32,7 +33,7 @@ two k {w} same goes = backup_goes w.protocol.state.mode (rw same goes)
 names_next : (r : Record) (p : Packet) (n : ℕ) (o : Option Refusal) → o ≡ first_refusal (backup_refusals r p) → o ≡ None
     → (p.generation ≡ r.generation → p.number < r.window.to_cut) → n ≡ r.window.to_commit → n ≤ p.number
     → r.window.to_commit < r.window.to_cut
-names_next r p n o is none cut e least = search (arith, rules, generation_is, passed)
+names_next r p n o is none cut e least = search (arith, rules, same_generation, passed)
 
 -- the line back with one packet more, by its value
 one_more : (l from to : Lines) (g h m n : ℕ) → to ≡ with_back from (packet h m) → from ≡ l → h ≡ g → m ≡ n → to ≡ with_back l (packet g n)

@@ -1,7 +1,7 @@
 use Rattle.std.proofs.Common.{sym, subst}
 use Rattle.pair_history.specs.HistoryState.{start_state}
-use Rattle.pair_core.specs.internal.Invariant.{Holds}
-use Rattle.pair_core.proofs.Events.{start_holds}
+use Rattle.pair_core.specs.Invariant.{Holds}
+use Rattle.pair_core.specs.laws.Events.{start_holds}
 use Rattle.pair_core.proofs.world.World.boot.Goals as goal
 
 pub invariant_of-world : goal.invariant_of-world

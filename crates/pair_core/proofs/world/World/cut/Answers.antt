@@ -1,16 +1,18 @@
 use Rattle.std.proofs.Common.{rules, arith, ◌≡◌, ◌∙◌, ap, sym, subst, false, None}
 use Rattle.pair_record.specs.declared.event.Event.TheVariants.{Cut}
-use Rattle.pair_core.specs.{internal.Invariant.Holds, Nodes.{Nodes, HasShape, machine_of, with_sealed}}
+use Rattle.pair_core.specs.{Invariant.Holds, Nodes.{Nodes, HasShape, machine_of, with_sealed}}
 use Rattle.pair_record.specs.{declared.event.Reply.Reply, Modes.{is_alone, mode_refusal}}
 use Rattle.pair_core.specs.{Replication.Replicates, Texts.IsText, Pair.Pair}
 use Rattle.pair_record.specs.Protocol.{Outcome, cut_refusals, cut_done}
 use Rattle.pair_core.specs.internal.WorldFields.{pair_of}
 use Rattle.epoch_snapshot.specs.Bases.{IsBase}
 use Rattle.guest_machine.specs.Guest.{Guest}
-use Rattle.pair_record.proofs.ModeLaws.{primary_goes}
-use Rattle.pair_core.proofs.{Consistent.{in_mode, live_is}, ReplicationLaws.{after_cut, cut_replicates}}
-use Rattle.pair_record.proofs.RecordLaws.{cut_record}
-use Rattle.pair_core.proofs.{Events.cut_holds, Outcomes.{goes, cut_sight}, world.World.cut.Goals.In_ok-reply}
+use Rattle.pair_record.specs.laws.Modes.{primary_goes}
+use Rattle.pair_core.specs.laws.Consistent.{in_mode, live_is}
+use Rattle.pair_core.proofs.ReplicationLaws.{after_cut, cut_replicates}
+use Rattle.pair_record.specs.laws.Records.{cut_record}
+use Rattle.pair_core.specs.laws.Events.{cut_holds}
+use Rattle.pair_core.proofs.{Outcomes.{goes, cut_sight}, world.World.cut.Goals.In_ok-reply}
 use Rattle.pair_core.proofs.world.World.cut.Goals as goal
 
 -- no node is alone

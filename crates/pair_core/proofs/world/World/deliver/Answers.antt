@@ -2,11 +2,12 @@ use Rattle.std.proofs.Common.{rules, ◌≡◌, ◌∙◌, false, None, ap, leng
 use Rattle.frame_ports.specs.Ports.{after_delivery}
 use Rattle.pair_record.specs.declared.event.Event.TheVariants.{Deliver}
 use Rattle.pair_record.specs.Protocol.{Outcome, allowed, deliver_refusals, deliver_done, delivery_refused}
-use Rattle.pair_record.proofs.ClientLaws.{delivery_free}
+use Rattle.pair_record.specs.laws.Tables.{delivery_free}
 use Rattle.pair_core.specs.Pair.{Pair, AfterRefusal}
 use Rattle.pair_core.specs.internal.WorldFields.{pair_of}
 use Rattle.frame_ports.specs.Lands.{list_of}
-use Rattle.pair_core.proofs.{Calls.{moved_to, named_delivery}, ClientEvents.{deliver_holds, refused_holds, after_refusal}}
+use Rattle.pair_core.specs.laws.{Events.moved_to, ClientEvents.{deliver_holds, refused_holds, after_refusal}}
+use Rattle.pair_core.proofs.Calls.{named_delivery}
 use Rattle.pair_core.proofs.Outcomes.{deliver_goes, deliver_stops, deliver_wants}
 use Rattle.pair_core.proofs.world.World.deliver.Goals as goal
 

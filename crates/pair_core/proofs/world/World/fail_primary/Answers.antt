@@ -1,9 +1,9 @@
 use Rattle.std.proofs.Common.{sym, ap, subst}
 use Rattle.failover.specs.declared.mode.Mode.TheVariants.{Stopped}
 use Rattle.pair_record.specs.Protocol.{Outcome}
-use Rattle.pair_core.specs.{internal.Invariant.Holds, internal.WorldFields.pair_of}
-use Rattle.pair_record.proofs.ModeLaws.{stop_goes}
-use Rattle.pair_core.proofs.Events.{mode_holds}
+use Rattle.pair_core.specs.{Invariant.Holds, internal.WorldFields.pair_of}
+use Rattle.pair_record.specs.laws.Modes.{stop_goes}
+use Rattle.pair_core.specs.laws.Events.{mode_holds}
 use Rattle.pair_core.proofs.world.World.fail_primary.Goals as goal
 
 pub invariant_of-self : goal.invariant_of-self

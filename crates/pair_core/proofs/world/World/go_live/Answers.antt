@@ -3,9 +3,10 @@ use Rattle.frame_ports.specs.{Addresses.IsFrame, Limits.number_limit}
 use Rattle.backup_image.specs.Kept.{count_kept}
 use Rattle.pair_history.specs.Entries.{Frame}
 use Rattle.pair_record.specs.{Kept.Brings, Protocol.{Outcome, first_refusal, go_live_refusals}, Record.owed_to}
-use Rattle.pair_core.specs.{Kept.first_kept, internal.Invariant.Holds, internal.WorldFields.pair_of}
-use Rattle.pair_record.proofs.{ModeLaws.{live_goes, live_full}, RecordLaws.{passed, some_committed}, WindowLaws.is_below}
-use Rattle.pair_core.proofs.{GoneLive.gone_live_holds, KeptLaws.{count-kept, each-of, keeps_brings}}
+use Rattle.pair_core.specs.{Kept.first_kept, Invariant.Holds, internal.WorldFields.pair_of}
+use Rattle.pair_record.specs.laws.{Modes.{live_goes, live_full}, Tables.passed, Records.some_committed}
+use Rattle.std.proofs.lemmas.Bool.{leb-false}
+use Rattle.pair_core.specs.laws.{GoneLive.gone_live_holds, Kept.{count-kept, each-of, keeps_brings}}
 use Rattle.pair_core.proofs.world.World.go_live.Goals.{After-go_live_refusal}
 use Rattle.pair_core.proofs.world.World.go_live.Goals as goal
 
@@ -54,7 +55,7 @@ invariant_of-self-2 c =
     let two = live_goes w.protocol.state.mode goes in
     let some = some_committed w.protocol.state c.keep.ensures.record two (live_full w.protocol.state.mode goes) in
     let rows = passed _ _ _ (sym (table at) ∙ c.in_default.is) in
-    let last = is_below number_limit (w.protocol.state.generation + 1) rows.0 in
+    let last = leb-false number_limit (w.protocol.state.generation + 1) rows.0 in
     let protocol = ap (λ (o : Outcome). o.1) (c.in_ok-reply.ensures.owed (brings_here at)) in
     let ports = c.in_ok-reply.ensures.owed_ports (brings_here at) in
     subst Holds (λ i. record w { protocol = record w.protocol { state = sym protocol i }; ports = sym ports i; nodes = sym c.go_live-2.ensures i })

@@ -1,6 +1,6 @@
 use Rattle.std.proofs.Common.{subst}
 use Rattle.pair_core.specs.{Pair.IsConsistent, internal.WorldFields.pair_of}
-use Rattle.pair_core.proofs.Consistent.{consistent}
+use Rattle.pair_core.specs.laws.Consistent.{consistent}
 use Rattle.pair_core.proofs.world.World.keep_consistent.Goals as goal
 
 pub returns : goal.returns

@@ -3,7 +3,8 @@ use Rattle.frame_ports.specs.Lands.{list_of}
 use Rattle.pair_record.specs.{declared.event.Event.TheVariants.LoseIn, Protocol.{loss_of, loss_refusals, lost_in}}
 use Rattle.pair_record.specs.declared.event.Reply.TheVariants as replies
 use Rattle.pair_core.specs.internal.WorldFields.{pair_of}
-use Rattle.pair_core.proofs.{Calls.named, ClientEvents.lost_in_holds, Outcomes.stops}
+use Rattle.pair_core.proofs.{Calls.named, Outcomes.stops}
+use Rattle.pair_core.specs.laws.ClientEvents.{lost_in_holds}
 use Rattle.pair_core.proofs.LossOutcomes.{lose_in_sight, loss_goes, loss_wants}
 use Rattle.pair_core.proofs.world.World.lose_in.Goals as goal
 

@@ -2,13 +2,14 @@ use Rattle.std.proofs.Common.{rules, ◌∙◌, ◌+◌, [], ap, sym, subst}
 use Rattle.guest_machine.specs.Guest.{Guest}
 use Rattle.frame_ports.specs.Limits.{number_limit}
 use Rattle.pair_record.specs.declared.event.Event.TheVariants.{Protect}
-use Rattle.pair_core.specs.{internal.Invariant.Holds, Nodes.{Nodes, HasShape, with_protected}}
+use Rattle.pair_core.specs.{Invariant.Holds, Nodes.{Nodes, HasShape, with_protected}}
 use Rattle.pair_record.specs.{Protocol.Outcome, declared.event.Reply.Reply}
 use Rattle.pair_core.specs.{Texts.IsText, internal.WorldFields.pair_of}
 use Rattle.pair_core.specs.{Replication.Replicates}
-use Rattle.pair_record.proofs.{ModeLaws.protect_goes, RecordLaws.passed}
-use Rattle.pair_core.proofs.{Consistent.keeps_nothing, Protected.protect_holds, world.World.protect.Goals.In_ok-image}
-use Rattle.pair_record.proofs.WindowLaws.{is_below}
+use Rattle.pair_record.specs.laws.{Modes.protect_goes, Tables.passed}
+use Rattle.pair_core.specs.laws.{Consistent.keeps_nothing, Protected.protect_holds}
+use Rattle.pair_core.proofs.world.World.protect.Goals.{In_ok-image}
+use Rattle.std.proofs.lemmas.Bool.{leb-false}
 use Rattle.pair_core.proofs.ReplicationLaws.{protect_replicates}
 use Rattle.pair_core.proofs.world.World.protect.Goals as goal
 
@@ -28,7 +29,7 @@ invariant_of-self-2 c =
     let goes = rw (← c.self.view_is) at c.requires in
     let lone = keeps_nothing w c.self.invariant c.keep.ensures.record (protect_goes w.protocol.state.mode goes) in
     let rows = passed _ _ _ (sym c.protect_refusal.ensures.refusal ∙ c.in_default.is) in
-    let last = is_below number_limit (w.protocol.state.generation + 1) rows.0 in
+    let last = leb-false number_limit (w.protocol.state.generation + 1) rows.0 in
     let protocol = ap (λ (o : Outcome). o.1) c.in-Ok.ensures.ok in
     let nodes = c.protect-2.ensures ∙ ap (λ (x : Nodes). with_protected x text) c.full_checkpoint.ensures.nodes in
     subst Holds (λ i. record w { protocol = record w.protocol { state = sym protocol i }; ports = sym c.in-Ok.ensures.ports i; nodes = sym nodes i })

@@ -1,9 +1,9 @@
 use Rattle.std.proofs.Common.{rules, ◌≡◌, ◌-◌, ◌∙◌, ap, subst, sym}
 use Rattle.std.specs.Prelude.{map}
 use Rattle.pair_record.specs.Protocol.{Outcome}
-use Rattle.pair_core.specs.{internal.Invariant.Holds, internal.WorldFields.pair_of}
+use Rattle.pair_core.specs.{Invariant.Holds, internal.WorldFields.pair_of}
 use Rattle.pair_core.specs.Lines.{packet_of, packets_from, with_forward, lines_after}
-use Rattle.pair_core.proofs.{Events.lines_hold, LineLaws.{sent_are, named-sent}}
+use Rattle.pair_core.specs.laws.{Events.lines_hold, Lines.{sent_are, named-sent}}
 use Rattle.pair_core.proofs.world.World.send.Goals.{After-send-2}
 use Rattle.pair_core.proofs.world.World.send.Goals as goal
 

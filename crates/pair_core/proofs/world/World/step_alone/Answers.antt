@@ -3,9 +3,10 @@ use Rattle.guest_machine.specs.Runs.{sent_in}
 use Rattle.frame_ports.specs.{Addresses.targets_of, Limits.number_limit}
 use Rattle.pair_history.specs.{Entries.{Frame, Ran}, Landings.landings}
 use Rattle.pair_record.specs.{Journal.{all_entries, with_history}, Modes.is_alone, Record.ports_landed}
-use Rattle.pair_core.specs.{internal.Invariant.Holds, Nodes.{Nodes, after_run, with_sent_off}}
+use Rattle.pair_core.specs.{Invariant.Holds, Nodes.{Nodes, after_run, with_sent_off}}
 use Rattle.pair_core.specs.{internal.WorldFields.pair_of}
-use Rattle.pair_core.proofs.{AloneRuns.{after_alone, alone_holds, alone_answered}, Consistent.{alone_is, keeps_nothing}}
+use Rattle.pair_core.proofs.AloneRuns.{after_alone, alone_holds, alone_answered}
+use Rattle.pair_core.specs.laws.Consistent.{alone_is, keeps_nothing}
 use Rattle.pair_core.proofs.world.World.step_alone.Goals.{After-send_off}
 use Rattle.pair_record.specs.declared.event.Reply.TheVariants as replies
 use Rattle.pair_core.proofs.world.World.step_alone.Goals as goal

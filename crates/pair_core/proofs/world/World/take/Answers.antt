@@ -1,8 +1,8 @@
 use Rattle.std.proofs.Common.{ap, false, length}
 use Rattle.pair_record.specs.{Protocol.{Outcome, take_done}, Record.ports_after_take}
-use Rattle.pair_record.proofs.ClientLaws.{entry_free}
+use Rattle.pair_record.specs.laws.Tables.{entry_free}
 use Rattle.pair_core.specs.internal.WorldFields.{pair_of}
-use Rattle.pair_core.proofs.{Calls.moved_to, ClientEvents.take_holds}
+use Rattle.pair_core.specs.laws.{Events.moved_to, ClientEvents.take_holds}
 use Rattle.pair_core.proofs.world.World.take.Goals as goal
 
 pub invariant_of-self : goal.invariant_of-self

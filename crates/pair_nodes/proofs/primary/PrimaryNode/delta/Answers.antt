@@ -6,7 +6,7 @@ use Rattle.guest_machine.specs.Guest.{Guest, State}
 use Rattle.guest_machine.specs.declared.shapes.Shape.{Shape}
 use Rattle.pair_core.specs.Nodes.{HasShape, machine_of, node_of}
 use Rattle.pair_core.specs.Texts.{IsText}
-use Rattle.pair_core.proofs.NodesLaws.{base-of, delta-text}
+use Rattle.pair_core.specs.laws.Nodes.{base-of, delta-text}
 use Rattle.pair_nodes.proofs.primary.PrimaryNode.delta.Goals as goal
 
 -- it is the text of what this machine changed

@@ -8,7 +8,7 @@ use Rattle.guest_machine.specs.Guest.{Guest, State, sector_count}
 use Rattle.guest_machine.specs.declared.shapes.Shape.{Shape}
 use Rattle.pair_core.specs.Nodes.{HasShape}
 use Rattle.pair_core.specs.Texts.{IsText}
-use Rattle.pair_core.proofs.NodesLaws.{delta-text}
+use Rattle.pair_core.specs.laws.Nodes.{delta-text}
 use Rattle.pair_nodes.proofs.primary.PrimaryNode.full_text.Goals as goal
 
 -- it is the text of a full checkpoint of this machine

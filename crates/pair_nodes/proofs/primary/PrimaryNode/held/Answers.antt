@@ -1,7 +1,7 @@
 -- All that is pending has numbers below the next one.
 use Rattle.std.proofs.Common.{◌-◌, ◌∙◌, ap, length, arith}
 use Rattle.output_gate.specs.Epochs.{frames_of}
-use Rattle.pair_record.proofs.AloneLaws.{frames_to-all}
+use Rattle.pair_record.specs.laws.Windows.{frames_to-all}
 use Rattle.pair_nodes.specs.Sides.{Primary}
 use Rattle.pair_nodes.proofs.Pending.{frames_few}
 use Rattle.pair_nodes.proofs.primary.PrimaryNode.held.Goals as goal

@@ -7,7 +7,7 @@ use Rattle.failover.specs.declared.mode.Mode.TheVariants as modes
 use Rattle.guest_machine.specs.Guest.{State}
 use Rattle.output_gate.specs.Epochs.{Epoch, epoch}
 use Rattle.output_gate.specs.Gate.{GateState}
-use Rattle.pair_record.proofs.WindowLaws.{NumberedFrom-push}
+use Rattle.pair_record.specs.laws.Windows.{NumberedFrom-push}
 use Rattle.pair_record.specs.Modes.{is_alone}
 use Rattle.pair_core.specs.Nodes.{HasShape}
 use Rattle.pair_record.specs.Window.{NumberedFrom}

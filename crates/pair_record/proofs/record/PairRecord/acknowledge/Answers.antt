@@ -1,10 +1,10 @@
-use Rattle.std.proofs.Common.{rules, arith, ◌≡◌, ◌∙◌, ap, List, length}
+use Rattle.std.proofs.Common.{rules, arith, ◌≡◌, ◌<◌, ◌∙◌, ap, List, length}
 use Rattle.frame_ports.specs.Addresses.{targets_of}
 use Rattle.pair_history.specs.Entries.{Frame}
 use Rattle.output_gate.specs.Epochs.{frames_to}
 use Rattle.pair_record.specs.{Protocol.ack_done, Record.ports_after_ack, internal.RecordFields.record_state}
-use Rattle.pair_record.proofs.NumberLaws.{ack_numbers, let_go_count, let_go_ports, none_came, same_numbers}
-use Rattle.pair_record.proofs.RecordLaws.{passed, has_room_for, ack_record, same_record}
+use Rattle.pair_record.specs.laws.Numbers.{ack_numbers, let_go_count, let_go_ports, none_came, same_numbers}
+use Rattle.pair_record.specs.laws.{Tables.{passed, has_room_for}, Records.{ack_record, same_record}}
 use Rattle.pair_record.proofs.record.PairRecord.acknowledge.Goals.{After-land-landed}
 use Rattle.pair_record.proofs.record.PairRecord.acknowledge.Goals as goal
 
@@ -36,7 +36,7 @@ pub invariant_of-self-2 : goal.invariant_of-self-2
 invariant_of-self-2 c =
     let s = record_state c.self.inside in
     let n = c.args.packet.number in
-    let below = rw (← c.self.view_is) at c.requires.committed in
+    let below : n < s.protocol.window.to_commit = search (arith, rules) in
     record {
       is = same_record (ack_done s.ports.boxes s.protocol n).1 _ (search (arith, rules))
           (ack_record s.protocol c.self.invariant.is s.ports.boxes n below);
@@ -49,13 +49,10 @@ invariant_of-self-2 c =
 pub returns-clause-ports : goal.returns-clause-ports
 returns-clause-ports c = rw (← c.self.view_is) (ports_are (goal.at.returns-clause-ports c).After-land-landed)
 
-pub returns-clause-ok : goal.returns-clause-ok
-returns-clause-ok c =
+pub returns-clause-done : goal.returns-clause-done
+returns-clause-done c =
     let s = record_state c.self.inside in
     let put = c.land-landed.ensures.landed
     ∙ let_go_count s.protocol s.ports c.self.invariant.numbers c.first.result c.first.ensures.first c.held.result.now
     (frames_to c.args.packet.number s.protocol.pending) c.held.ensures.held in
     search (arith, rules, put)
-
-pub returns-in_err-reserve-clause-some : goal.returns-in_err-reserve-clause-some
-returns-in_err-reserve-clause-some c = search (arith, rules)

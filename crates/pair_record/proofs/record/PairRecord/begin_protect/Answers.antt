@@ -1,6 +1,6 @@
 use Rattle.std.proofs.Common.{rules, arith, ◌≡◌, []}
 use Rattle.pair_record.specs.{Protocol.begin_done, internal.RecordFields.record_state}
-use Rattle.pair_record.proofs.{NumberLaws.{begin_numbers, same_numbers}, ProtectLaws.begin_record, RecordLaws.same_record}
+use Rattle.pair_record.specs.laws.{Numbers.{begin_numbers, same_numbers}, Records.{begin_record, same_record}}
 use Rattle.pair_record.proofs.record.PairRecord.begin_protect.Goals as goal
 
 pub invariant_of-self : goal.invariant_of-self

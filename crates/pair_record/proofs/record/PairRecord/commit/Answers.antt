@@ -1,6 +1,6 @@
 use Rattle.std.proofs.Common.{rules, arith, refl}
 use Rattle.pair_record.specs.{Protocol.commit_done, internal.RecordFields.record_state}
-use Rattle.pair_record.proofs.{NumberLaws.{commit_numbers, same_numbers}, RecordLaws.{commit_record, same_record}}
+use Rattle.pair_record.specs.laws.{Numbers.{commit_numbers, same_numbers}, Records.{commit_record, same_record}}
 use Rattle.pair_record.proofs.record.PairRecord.commit.Goals as goal
 
 pub invariant_of-self-2 : goal.invariant_of-self-2

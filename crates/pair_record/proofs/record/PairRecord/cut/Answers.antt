@@ -1,6 +1,6 @@
 use Rattle.std.proofs.Common.{rules, arith, refl, []}
 use Rattle.pair_record.specs.{Protocol.cut_done, internal.RecordFields.record_state}
-use Rattle.pair_record.proofs.{NumberLaws.{sealed_numbers, same_numbers}, RecordLaws.{rising, cut_record, same_record}}
+use Rattle.pair_record.specs.laws.{Numbers.{sealed_numbers, same_numbers}, Records.{rising, cut_record, same_record}}
 use Rattle.pair_record.proofs.record.PairRecord.cut.Goals as goal
 
 pub hold-requires-clause-above : goal.hold-requires-clause-above

@@ -5,9 +5,9 @@ use Rattle.pair_journal.specs.Journal.{Journal, all_entries}
 use Rattle.pair_record.specs.Protocol.{landed_after}
 use Rattle.pair_record.specs.Record.{ports_landed}
 use Rattle.pair_record.specs.internal.RecordFields.{record_state}
-use Rattle.pair_record.proofs.NumberLaws.{lone_came, lone_numbers, lone_ports, same_numbers}
+use Rattle.pair_record.specs.laws.Numbers.{lone_came, lone_numbers, lone_ports, same_numbers}
 use Rattle.pair_journal.specs.laws.Epochs.{all-entered}
-use Rattle.pair_record.proofs.RecordLaws.{entered_record, passed, has_room_for, same_record}
+use Rattle.pair_record.specs.laws.{Records.{entered_record, same_record}, Tables.{passed, has_room_for}}
 use Rattle.pair_record.proofs.record.PairRecord.enter_epoch.Goals as goal
 
 pub land-landed-requires-clause-fits : goal.land-landed-requires-clause-fits

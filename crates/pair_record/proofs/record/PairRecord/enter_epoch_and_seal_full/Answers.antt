@@ -3,9 +3,9 @@ use Rattle.frame_ports.specs.Numbers.{renumbered}
 use Rattle.pair_journal.specs.Journal.{Journal, all_entries}
 use Rattle.pair_record.specs.internal.RecordFields.{record_state}
 use Rattle.pair_journal.specs.laws.Epochs.{all-entered}
-use Rattle.pair_record.proofs.NumberLaws.{lone_came, lone_ports}
-use Rattle.pair_record.proofs.ProtectLaws.{none_yet}
-use Rattle.pair_record.proofs.RecordLaws.{passed, has_room_for}
+use Rattle.pair_record.specs.laws.Numbers.{lone_came, lone_ports}
+use Rattle.pair_record.specs.laws.Records.{none_yet}
+use Rattle.pair_record.specs.laws.Tables.{passed, has_room_for}
 use Rattle.pair_record.proofs.record.PairRecord.enter_epoch_and_seal_full.Goals.{After-next}
 use Rattle.pair_record.proofs.record.PairRecord.enter_epoch_and_seal_full.Goals as goal
 

@@ -6,9 +6,10 @@ use Rattle.pair_journal.specs.Journal.{all_committed, with_history}
 use Rattle.frame_ports.specs.Addresses.{targets_of}
 use Rattle.pair_record.specs.Protocol.{all_held, fail_backup_done}
 use Rattle.pair_record.specs.{Record.{first_held, ports_after_all}, internal.RecordFields.record_state}
-use Rattle.pair_record.proofs.AloneLaws.{all_are, failure_record}
-use Rattle.pair_record.proofs.NumberLaws.{failure_numbers, first_same, let_go_count, let_go_ports, none_came, same_numbers}
-use Rattle.pair_record.proofs.RecordLaws.{passed, has_room_for, rising, same_record}
+use Rattle.pair_record.proofs.AloneLaws.{all_are}
+use Rattle.pair_record.specs.laws.Records.{failure_record}
+use Rattle.pair_record.specs.laws.Numbers.{failure_numbers, first_same, let_go_count, let_go_ports, none_came, same_numbers}
+use Rattle.pair_record.specs.laws.{Tables.{passed, has_room_for}, Records.{rising, same_record}}
 use Rattle.pair_record.proofs.record.PairRecord.fail_backup.Goals.{After-held, After-none_pending-self-inside}
 use Rattle.failover.specs.declared.mode.Mode.TheVariants as modes
 use Rattle.pair_record.specs.declared.event.Reply.TheVariants as replies

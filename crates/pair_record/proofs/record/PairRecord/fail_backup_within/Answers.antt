@@ -4,9 +4,10 @@ use Rattle.frame_ports.specs.Lands.{put_count}
 use Rattle.pair_record.specs.EpochActs.{fail_within_done}
 use Rattle.pair_record.specs.Protocol.{all_held, landed_after}
 use Rattle.pair_record.specs.{Record.{ports_after_all}, internal.RecordFields.record_state}
-use Rattle.pair_record.proofs.AloneLaws.{held_are, failure_record}
-use Rattle.pair_record.proofs.NumberLaws.{failure_numbers, let_go_count, let_go_ports, none_came, same_numbers}
-use Rattle.pair_record.proofs.RecordLaws.{passed, has_room_for, same_record}
+use Rattle.pair_record.proofs.AloneLaws.{held_are}
+use Rattle.pair_record.specs.laws.Records.{failure_record}
+use Rattle.pair_record.specs.laws.Numbers.{failure_numbers, let_go_count, let_go_ports, none_came, same_numbers}
+use Rattle.pair_record.specs.laws.{Tables.{passed, has_room_for}, Records.same_record}
 use Rattle.pair_record.proofs.record.PairRecord.fail_backup_within.Goals.{After-held, After-none_pending-self-inside}
 use Rattle.frame_ports.specs.Addresses.{targets_of}
 use Rattle.failover.specs.declared.mode.Mode.TheVariants as modes

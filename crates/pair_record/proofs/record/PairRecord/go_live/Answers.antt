@@ -7,8 +7,9 @@ use Rattle.pair_record.specs.Record.{RecordState}
 use Rattle.pair_record.specs.internal.RecordFields.{record_state}
 use Rattle.pair_journal.specs.LandedEntries.{all_frames, entries_after}
 use Rattle.pair_record.specs.Kept.{brought, brought_entries, ports_after_brought}
-use Rattle.pair_record.proofs.{BroughtLaws.{brought_landings, brought_ports}, LiveLaws.{goes_on_twice, live_fits, live_record}}
-use Rattle.pair_record.proofs.{NumberLaws.{live_numbers, same_numbers}, RecordLaws.same_record}
+use Rattle.pair_record.specs.laws.{Owed.{brought_landings, brought_ports}, Records.live_record}
+use Rattle.pair_record.proofs.LiveLaws.{goes_on_twice, live_fits}
+use Rattle.pair_record.specs.laws.{Numbers.{live_numbers, same_numbers}, Records.same_record}
 use Rattle.pair_record.proofs.record.PairRecord.go_live.Goals.{After-count_lists-count, After-begin}
 use Rattle.pair_record.proofs.record.PairRecord.go_live.Goals as goal
 

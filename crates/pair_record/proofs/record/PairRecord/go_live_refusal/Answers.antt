@@ -5,7 +5,8 @@ use Rattle.pair_record.specs.{FailureActs.{first_uncommitted, live_refusals}, Re
 use Rattle.pair_journal.specs.LandedEntries.{all_frames, entries_after}
 use Rattle.pair_record.specs.Kept.{brought_entries, brought_refusals}
 use Rattle.pair_record.specs.{declared.event.Refusal.TheVariants.Exhausted, Protocol.first_refusal}
-use Rattle.pair_record.proofs.{BroughtLaws.brought_landings, LiveLaws.{live_count, live_refused, live_allowed}}
+use Rattle.pair_record.specs.laws.Owed.{brought_landings}
+use Rattle.pair_record.proofs.LiveLaws.{live_count, live_refused, live_allowed}
 use Rattle.pair_record.proofs.record.PairRecord.go_live_refusal.Goals.{After-len}
 use Rattle.pair_record.proofs.record.PairRecord.go_live_refusal.Goals as goal
 

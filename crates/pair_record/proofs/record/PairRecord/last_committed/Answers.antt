@@ -1,7 +1,7 @@
 use Rattle.std.proofs.Common.{ap, arith, List, length}
 use Rattle.pair_history.specs.Entries.{Frame}
 use Rattle.pair_record.specs.internal.RecordFields.{record_state}
-use Rattle.pair_record.proofs.NumberLaws.{in_two}
+use Rattle.pair_record.specs.laws.Numbers.{in_two}
 use Rattle.pair_record.proofs.record.PairRecord.last_committed.Goals as goal
 
 pub returns-clause-last : goal.returns-clause-last

@@ -1,7 +1,7 @@
 use Rattle.std.proofs.Common.{rules, arith, ◌≡◌, []}
 use Rattle.frame_ports.specs.Numbers.{renumbered}
 use Rattle.pair_record.specs.{Protocol.protect_done, internal.RecordFields.record_state}
-use Rattle.pair_record.proofs.{NumberLaws.{protect_numbers, same_numbers}, ProtectLaws.protect_record, RecordLaws.same_record}
+use Rattle.pair_record.specs.laws.{Numbers.{protect_numbers, same_numbers}, Records.{protect_record, same_record}}
 use Rattle.pair_record.proofs.record.PairRecord.protect.Goals as goal
 
 pub invariant_of-self-2 : goal.invariant_of-self-2

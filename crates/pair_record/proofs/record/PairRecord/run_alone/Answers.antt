@@ -5,8 +5,9 @@ use Rattle.pair_journal.specs.Journal.{Journal, all_entries, with_history}
 use Rattle.pair_journal.specs.laws.Joined.{length-all}
 use Rattle.pair_record.specs.Record.{ports_landed}
 use Rattle.pair_record.specs.internal.RecordFields.{record_state}
-use Rattle.pair_record.proofs.{AloneLaws.few_targets, LiveLaws.goes_on_twice, NumberLaws.{lone_came, lone_numbers, lone_ports, same_numbers}}
-use Rattle.pair_record.proofs.RecordLaws.{history_record, same_record}
+use Rattle.pair_record.proofs.{AloneLaws.few_targets, LiveLaws.goes_on_twice}
+use Rattle.pair_record.specs.laws.Numbers.{lone_came, lone_numbers, lone_ports, same_numbers}
+use Rattle.pair_record.specs.laws.Records.{history_record, same_record}
 use Rattle.pair_record.proofs.record.PairRecord.run_alone.Goals as goal
 
 pub land-landed-requires-clause-room : goal.land-landed-requires-clause-room

@@ -2,7 +2,8 @@ use Rattle.std.proofs.Common.{rules, arith, refl}
 use Rattle.pair_record.specs.EpochActs.{seal_epoch_done}
 use Rattle.pair_journal.specs.Epochs.{guest_epoch, behind}
 use Rattle.pair_record.specs.internal.RecordFields.{record_state}
-use Rattle.pair_record.proofs.{NumberLaws.{sealed_numbers, same_numbers}, RecordLaws.{has_room_for, rising, sealed_record, same_record}}
+use Rattle.pair_record.specs.laws.{Numbers.{sealed_numbers, same_numbers}, Tables.has_room_for, Records.{rising, sealed_record}}
+use Rattle.pair_record.specs.laws.Records.{same_record}
 use Rattle.pair_record.proofs.record.PairRecord.seal_epoch.Goals as goal
 
 pub seal_epoch-requires-clause-fits : goal.seal_epoch-requires-clause-fits

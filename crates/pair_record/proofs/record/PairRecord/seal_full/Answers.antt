@@ -1,7 +1,7 @@
 use Rattle.std.proofs.Common.{rules, arith, ◌≡◌, []}
 use Rattle.frame_ports.specs.Numbers.{renumbered}
 use Rattle.pair_record.specs.{Protocol.full_done, internal.RecordFields.record_state}
-use Rattle.pair_record.proofs.{NumberLaws.{full_numbers, same_numbers}, ProtectLaws.{full_record, none_yet}, RecordLaws.same_record}
+use Rattle.pair_record.specs.laws.{Numbers.{full_numbers, same_numbers}, Records.{full_record, none_yet, same_record}}
 use Rattle.pair_record.proofs.record.PairRecord.seal_full.Goals as goal
 
 pub invariant_of-self-2 : goal.invariant_of-self-2
