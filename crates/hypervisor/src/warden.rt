@@ -11,7 +11,7 @@ ghost use Rattle.pair_book.specs.Failures.{MakesAlone, fail_primary_why, fail_ba
 ghost use Rattle.pair_book.specs.Packets.{no_texts};
 ghost use Rattle.hypervisor.specs.Failures.{IsProtected};
 ghost use Rattle.hypervisor.specs.GoingLive.{BecomesLive, live_refusals};
-ghost use Rattle.hypervisor.specs.FirstBackups.{HaveLookedBeside};
+ghost use Rattle.hypervisor.specs.FirstBackups.{FindFirstGeneration, FindLaterGeneration};
 ghost use Rattle.hypervisor.specs.Looking.{HaveLooked};
 ghost use Rattle.hypervisor.specs.declared.looking.Found.{Found};
 ghost use Rattle.hypervisor.specs.Refusals.{fail_refusals, protect_refusals};
@@ -240,14 +240,17 @@ impl<P: Pair> Warden<P> {
     ///
     /// # Errors
     ///
-    /// [`LaterGeneration`] where a node has failed, and the pair is in a later generation.
+    /// [`LaterGeneration`] where a node has failed, and the pair is in a later generation. They have all looked then too.
     pub fn look_beside<R: Wait>(
         &self,
         rt: &R,
         clients: &mut Vec<Client<P>>,
         backup: &mut FirstBackup<P>,
     ) -> Result<Found, LaterGeneration>
-        ensures { IfOk result (λ found. HaveLookedBeside P.start found clients.old.items clients.new.items) }
+        ensures first { IfOk result (λ found.
+            FindFirstGeneration P.start found clients.old.items clients.new.items backup.old backup.new) }
+        ensures later { IfErr result (λ generation.
+            FindLaterGeneration P.start generation clients.old.items clients.new.items backup.old backup.new) }
     {
         let shared = &*self.shared;
         let mut held = shared.lock(rt);
