@@ -122,7 +122,8 @@ abbrev pub with_seat : BackupState → BackupState → BackupState
 with_seat old new = record old { seat = new.seat }
 
 -- CLIENTS AND THE FIRST BACKUP HAVE LOOKED: all of them have seen one list of steps, which is all that were made, and this was found.
-pub record HaveLookedBeside (start : HistoryState) (found : Found) (old new : List ClientState) (backup backup' : BackupState) : Type 0 where
+pub record HaveLookedBeside (start : HistoryState) (found : Found) (old new : List ClientState) (backup backup' : BackupState) :
+    Type 0 where
   pub all : List Step
   pub has : HasFound start all found
   pub see : SeeAll start all old new

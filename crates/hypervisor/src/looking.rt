@@ -22,8 +22,8 @@ pub struct Found {
     pub pending: u64,
 }
 
-/// The pair is in a later generation than its first, since a node has failed. Only who looked at the book of such a pair has this. Contracts
-/// see the number of the generation.
+/// The pair is in a later generation than its first, since a node has failed. Only who looked at the book of such a pair has this.
+/// Contracts see the number of the generation.
 #[derive(Debug, Drop)]
 pub struct LaterGeneration {
     generation: u64,

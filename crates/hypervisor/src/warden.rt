@@ -195,8 +195,8 @@ impl<P: Pair> Warden<P> {
     ///
     /// # Errors
     ///
-    /// In this order: [`Refusal::Exhausted`] where there are as many members as can be counted; [`Refusal::NoMemory`] where that memory can't
-    /// be had; [`Refusal::Stopped`] where the primary has stopped; [`Refusal::AlreadyPaired`] where there is a backup;
+    /// In this order: [`Refusal::Exhausted`] where there are as many members as can be counted; [`Refusal::NoMemory`] where that memory
+    /// can't be had; [`Refusal::Stopped`] where the primary has stopped; [`Refusal::AlreadyPaired`] where there is a backup;
     /// [`Refusal::Exhausted`] where the generation's number, or the word, would reach 2^62. Nothing has changed then.
     pub fn protect<R: Wait>(&mut self, rt: &R) -> Result<Backup<P>, Refusal>
         ensures backup { IfOk result (IsProtected P.start) }
@@ -225,8 +225,8 @@ impl<P: Pair> Warden<P> {
         }
     }
 
-    /// How far the pair has come. These clients look: each of them has then seen the one list of all the steps that were made, whose history
-    /// has the length that is answered, and in which its own entries are as before.
+    /// How far the pair has come. These clients look: each of them has then seen the one list of all the steps that were made, whose
+    /// history has the length that is answered, and in which its own entries are as before.
     pub fn look<R: Wait>(&self, rt: &R, clients: &mut Vec<Client<P>>) -> Found
         ensures looked { HaveLooked P.start result clients.old.items clients.new.items }
     {
