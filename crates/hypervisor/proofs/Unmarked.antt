@@ -10,7 +10,6 @@ use Rattle.growing_history.specs.FirstGeneration.{AreUnmarked, CommitsSealed}
 use Rattle.growing_history.specs.LogState.{first_backup, LegalSteps}
 use Rattle.growing_history.specs.Steps.{Sealed, Committed, Step, step, Begins, steps_by}
 use Rattle.growing_history.specs.Views.{Member}
-use Rattle.guest_machine.specs.declared.shapes.Shape.{Shape}
 use Rattle.pair_book.specs.Packets.{PacketState}
 use Rattle.pair_book.specs.Texts.{WasSealed}
 use Rattle.pair_book.specs.declared.failures.Ack.{Ack}
@@ -18,7 +17,7 @@ use Rattle.pair_history.specs.HistoryState.{HistoryState}
 use Rattle.pair_record.specs.declared.event.Refusal.{Refusal}
 use Rattle.hypervisor.specs.Backups.{BackupState}
 use Rattle.hypervisor.specs.Commits.{Commits, AfterRefusedCommit, gives_up, after_refusal}
-use Rattle.hypervisor.specs.FirstBackups.{packet_of, IsSealed, IsFirstBackup, HasSeen, Hears, AnswersPacket, AfterPacket, with_seat}
+use Rattle.hypervisor.specs.FirstBackups.{packet_of, IsSealed, IsFirstBackup, HasSeen, Hears, AnswersPacket, AfterPacket}
 use Rattle.hypervisor.specs.Opening.{unseen}
 use Rattle.hypervisor.specs.Seats.{MakesStep, Looks}
 
@@ -133,20 +132,6 @@ heard-on others h badge old new f s = subst (IsFirstBackup h) (sym s.is) (looked
 -- WHERE IT READS A PACKET of which it is told: what it has seen then it had heard
 module _ (others : OthersLaw) (h : HistoryState) (badge : List Step) (p : PacketState) (old mid new : BackupState)
     (r : Result Bool StreamError) (heard : Hears h badge old mid) (left : AfterPacket p r mid new) where
-  seat-stays : (r : Result Bool StreamError) → AfterPacket p r mid new → new.seat ≡ mid.seat
-  seat-stays (Ok true) a = ap (λ (b : BackupState). b.seat) a.is
-  seat-stays (Ok false) a = ap (λ (b : BackupState). b.seat) a
-  seat-stays (Err why) a = ap (λ (b : BackupState). b.seat) a
-
-  was-told : mid ≡ with_seat old new
-  was-told = heard.is ∙ ap (λ (s : Member). record old { seat = s }) (sym (seat-stays r left))
-
-  pub packet-heard : Hears h badge old (with_seat old new)
-  packet-heard = subst (Hears h badge old) was-told heard
-
-  pub packet-after : AfterPacket p r (with_seat old new) new
-  packet-after = subst (λ (b : BackupState). AfterPacket p r b new) was-told left
-
   pub packet-answers : AnswersPacket mid.image.shape p r → AnswersPacket old.image.shape p r
   packet-answers = subst (λ (b : BackupState). AnswersPacket b.image.shape p r) heard.is
 

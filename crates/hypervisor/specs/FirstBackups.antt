@@ -1,5 +1,5 @@
 -- The first backup of a pair, where it commits nothing but what was sealed: in the first generation no commit is marked.
-use Rattle.std.specs.Prelude.{◌≡◌, ℕ, ◌==◌, ◌&&◌, nat_le, Bool, true, false, List, length, Option, None, Some, Result, Ok, Err}
+use Rattle.std.specs.Prelude.{◌≡◌, ◌≢◌, ℕ, ◌==◌, ◌&&◌, nat_le, Bool, true, false, List, length, Option, None, Some, Result, Ok, Err}
 use Rattle.checkpoint_stream.specs.ReadBack.{ReadsBack}
 use Rattle.checkpoint_stream.specs.Readings.{Reading, begun, fed, taken, is_whole, failure_at}
 use Rattle.checkpoint_stream.specs.Sound.{change_in}
@@ -121,7 +121,25 @@ IsReadOrNoMemory (Err (NoMemory _)) = Unit {0}
 abbrev pub with_seat : BackupState → BackupState → BackupState
 with_seat old new = record old { seat = new.seat }
 
--- clients and the first backup have looked, and the pair is in its first generation: no commit is marked
-abbrev pub HaveLookedBeside : HistoryState → Found → List ClientState → List ClientState → Type 0
-HaveLookedBeside start found old new =
-    (all : List Step) × HasFound start all found × SeeAll start all old new × ((state_at start all).marked ≡ 0) × (found.generation ≡ 1)
+-- CLIENTS AND THE FIRST BACKUP HAVE LOOKED: all of them have seen one list of steps, which is all that were made, and this was found.
+pub record HaveLookedBeside (start : HistoryState) (found : Found) (old new : List ClientState) (backup backup' : BackupState) :
+    Type 0 where
+  pub all : List Step
+  pub has : HasFound start all found
+  pub see : SeeAll start all old new
+  pub seen : HasSeen start all backup backup'
+
+-- the pair in its first generation: no commit is marked
+pub record FindFirstGeneration (start : HistoryState) (found : Found) (old new : List ClientState) (backup backup' : BackupState) :
+    Type 0 where
+  pub looked : HaveLookedBeside start found old new backup backup'
+  pub first : found.generation ≡ 1
+  pub unmarked : (state_at start looked.all).marked ≡ 0
+
+-- the pair in a later generation than its first, which has this number
+pub record FindLaterGeneration (start : HistoryState) (generation : ℕ) (old new : List ClientState) (backup backup' : BackupState) :
+    Type 0 where
+  pub found : Found
+  pub looked : HaveLookedBeside start found old new backup backup'
+  pub number : found.generation ≡ generation
+  pub later : generation ≢ 1

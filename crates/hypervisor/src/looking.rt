@@ -1,6 +1,6 @@
 //! How far a pair has come.
-ghost use Rattle.std.specs.Prelude.{◌≡◌, ◌≢◌, IfOk, IfErr};
-ghost use Rattle.hypervisor.specs.FirstBackups.{HaveLookedBeside};
+ghost use Rattle.std.specs.Prelude.{◌≡◌, IfOk, IfErr};
+ghost use Rattle.hypervisor.specs.FirstBackups.{FindFirstGeneration, FindLaterGeneration, HasSeen};
 ghost use Rattle.hypervisor.specs.Looking.{found_at, HasFound, HaveLooked, SeeAll};
 
 use crate::clients::Client;
@@ -23,6 +23,7 @@ pub struct Found {
 }
 
 /// The pair is in a later generation than its first, since a node has failed. Only who looked at the book of such a pair has this.
+/// Contracts see the number of the generation.
 #[derive(Debug, Drop)]
 pub struct LaterGeneration {
     generation: u64,
@@ -36,17 +37,6 @@ impl Model for LaterGeneration {
     ghost view = { λ l. l.generation };
 
     ghost invariant = { λ l. l.generation ≢ 1 };
-}
-
-impl LaterGeneration {
-    /// The number of the generation.
-    pub fn number(&self) -> u64
-        ensures number { result ≡ self.now }
-        // What is true of every one.
-        ensures later { self.now ≢ 1 }
-    {
-        self.generation
-    }
 }
 
 /// How far the pair has come; and each of these clients sees all the steps that were made.
@@ -87,9 +77,13 @@ pub(crate) fn look_beside<P: Pair>(
 ) -> Result<Found, LaterGeneration>
     ensures same { book.new ≡ book.old }
     ensures see { SeeAll P.start book.old.steps clients.old.items clients.new.items }
+    ensures seen { HasSeen P.start book.old.steps backup.old backup.new }
     ensures found { IfOk result (λ found. found ≡ found_at book.old) }
-    ensures looked { IfOk result (λ found. HaveLookedBeside P.start found clients.old.items clients.new.items) }
-    ensures later { IfErr result (λ generation. generation ≡ book.old.protocol.generation) }
+    ensures generation { IfErr result (λ generation. generation ≡ book.old.protocol.generation) }
+    ensures first { IfOk result (λ found.
+        FindFirstGeneration P.start found clients.old.items clients.new.items backup.old backup.new) }
+    ensures later { IfErr result (λ generation.
+        FindLaterGeneration P.start generation clients.old.items clients.new.items backup.old backup.new) }
 {
     backup.look(book, clock);
     let found = look(book, clock, clients);

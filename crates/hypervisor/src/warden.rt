@@ -11,7 +11,7 @@ ghost use Rattle.pair_book.specs.Failures.{MakesAlone, fail_primary_why, fail_ba
 ghost use Rattle.pair_book.specs.Packets.{no_texts};
 ghost use Rattle.hypervisor.specs.Failures.{IsProtected};
 ghost use Rattle.hypervisor.specs.GoingLive.{BecomesLive, live_refusals};
-ghost use Rattle.hypervisor.specs.FirstBackups.{HaveLookedBeside};
+ghost use Rattle.hypervisor.specs.FirstBackups.{FindFirstGeneration, FindLaterGeneration};
 ghost use Rattle.hypervisor.specs.Looking.{HaveLooked};
 ghost use Rattle.hypervisor.specs.declared.looking.Found.{Found};
 ghost use Rattle.hypervisor.specs.Refusals.{fail_refusals, protect_refusals};
@@ -195,8 +195,8 @@ impl<P: Pair> Warden<P> {
     ///
     /// # Errors
     ///
-    /// In this order: [`Refusal::Exhausted`] where there are as many members as can be counted; [`Refusal::NoMemory`] where that memory can't
-    /// be had; [`Refusal::Stopped`] where the primary has stopped; [`Refusal::AlreadyPaired`] where there is a backup;
+    /// In this order: [`Refusal::Exhausted`] where there are as many members as can be counted; [`Refusal::NoMemory`] where that memory
+    /// can't be had; [`Refusal::Stopped`] where the primary has stopped; [`Refusal::AlreadyPaired`] where there is a backup;
     /// [`Refusal::Exhausted`] where the generation's number, or the word, would reach 2^62. Nothing has changed then.
     pub fn protect<R: Wait>(&mut self, rt: &R) -> Result<Backup<P>, Refusal>
         ensures backup { IfOk result (IsProtected P.start) }
@@ -225,8 +225,8 @@ impl<P: Pair> Warden<P> {
         }
     }
 
-    /// How far the pair has come. These clients look: each of them has then seen the one list of all the steps that were made, whose history
-    /// has the length that is answered, and in which its own entries are as before.
+    /// How far the pair has come. These clients look: each of them has then seen the one list of all the steps that were made, whose
+    /// history has the length that is answered, and in which its own entries are as before.
     pub fn look<R: Wait>(&self, rt: &R, clients: &mut Vec<Client<P>>) -> Found
         ensures looked { HaveLooked P.start result clients.old.items clients.new.items }
     {
@@ -240,14 +240,17 @@ impl<P: Pair> Warden<P> {
     ///
     /// # Errors
     ///
-    /// [`LaterGeneration`] where a node has failed, and the pair is in a later generation.
+    /// [`LaterGeneration`] where a node has failed, and the pair is in a later generation. They have all looked then too.
     pub fn look_beside<R: Wait>(
         &self,
         rt: &R,
         clients: &mut Vec<Client<P>>,
         backup: &mut FirstBackup<P>,
     ) -> Result<Found, LaterGeneration>
-        ensures { IfOk result (λ found. HaveLookedBeside P.start found clients.old.items clients.new.items) }
+        ensures first { IfOk result (λ found.
+            FindFirstGeneration P.start found clients.old.items clients.new.items backup.old backup.new) }
+        ensures later { IfErr result (λ generation.
+            FindLaterGeneration P.start generation clients.old.items clients.new.items backup.old backup.new) }
     {
         let shared = &*self.shared;
         let mut held = shared.lock(rt);

@@ -1,5 +1,5 @@
 -- What was printed of a run.
-use Rattle.std.proofs.Common.{◌≡◌, ℕ, ◌+◌, inl, inr, Bool, List, [], ◌++◌, Result, Ok, Err, IfOk, subst, sym, ap, ◌∙◌, append_assoc, append-nil}
+use Rattle.std.proofs.Common.{◌≡◌, ℕ, ◌+◌, inl, inr, Bool, List, [], ◌++◌, Result, Ok, Err, IfOk, IfErr, map, subst, sym, ap, ◌∙◌, append_assoc, append-nil}
 use Rattle.std.specs.Io.KnownBytes.{Appends}
 use Rattle.std.proofs.KnownBytes.{Appends-trans}
 use Rattle.pair_history.specs.HistoryState.{HistoryState}
@@ -14,11 +14,15 @@ use Rattle.pair_run.specs.RunPrinted.{IsWritten, run_text}
 use Rattle.pair_run.specs.declared.printing.Answered.{Answered}
 use Rattle.pair_run.specs.declared.run_file.ClientLine.{ClientLine}
 use Rattle.pair_run.specs.declared.run_file.RunFile.{RunFile}
-use Rattle.pair_threads.specs.Runs.{IsPlayed, IsRun, IsRunFrom, IsRunOf, IsSaid, IsWhole, printed, cut_short, is_bad, unread}
+use Rattle.pair_threads.specs.Runs.{IsPlayed, IsRun, IsRunFrom, IsRunOf, IsSaid, IsWhole, start_of}
+use Rattle.pair_threads.specs.Runs.{printed, cut_short, refused, later, is_bad, unread}
 use Rattle.pair_threads.specs.Served.{AreServed}
 use Rattle.pair_threads.specs.Told.{AreAnswered}
-use Rattle.pair_threads.specs.internal.Scripts.{ScriptState, AreScripts, HasEnded, HasPlayed}
-use Rattle.pair_threads.specs.internal.Shown.{IsShown, IsTold}
+use Rattle.pair_threads.specs.declared.file_run.Unplayed.{Unplayed}
+use Rattle.pair_threads.specs.declared.file_run.Unplayed.TheVariants as unplayed
+use Rattle.pair_threads.specs.internal.Scripts.{ScriptState, AreScripts, HasEnded, HasEndedUntold, HasPlayed, IsUntold}
+use Rattle.pair_threads.specs.internal.Scripts.{answered_of}
+use Rattle.pair_threads.specs.internal.Shown.{IsShown, IsTold, untold_text}
 use Rattle.pair_threads.proofs.AnswerLemmas.{all-answered}
 use Rattle.pair_run.specs.Views.{IsReadAs}
 use Rattle.pair_run.specs.declared.run_file.Unread.{Unread}
@@ -75,6 +79,11 @@ pub if-had : {T E : Type 0} (r : Result T E) (P Q : T → Type 0) → ((x : T) �
 if-had (Ok x) P Q so has = so x has
 if-had (Err e) P Q so has = tt
 
+-- likewise of one that may have been refused
+pub if-refused : {T E : Type 0} (r : Result T E) (P Q : E → Type 0) → ((e : E) → P e → Q e) → IfErr r P → IfErr r Q
+if-refused (Ok x) P Q so has = tt
+if-refused (Err e) P Q so has = so e has
+
 -- all that is told of a run that has ended, by the lines of its scripts
 pub ended-run : (start : HistoryState) → ((c : ℕ) → own start (new_client c) ≡ []) → (lines : List ClientLine) (scripts ended : List ScriptState)
     (epochs : ℕ) (clients : List Answered) (entries : ℕ) (is_whole : Bool) → AreScripts lines scripts
@@ -91,6 +100,24 @@ ended-run start unseen lines scripts ended epochs clients entries is_whole are s
   count = e.count ∙ e.has.entries e.unmarked;
   whole = λ is. whole-found start e.all epochs e.found e.has (e.whole is);
 }
+
+-- and why nothing is
+pub untold-run : (start : HistoryState) → ((c : ℕ) → own start (new_client c) ≡ []) → (lines : List ClientLine) (scripts ended : List ScriptState)
+    (why : Unplayed) → AreScripts lines scripts → AreServed (HasPlayed start) scripts ended → HasEndedUntold start ended why
+    → IsUntold start lines why
+untold-run start unseen lines scripts ended unplayed.NoMemory are served e = tt
+untold-run start unseen lines scripts ended (unplayed.Later generation) are served e = record {
+  all = e.all;
+  legal = e.has.legal;
+  generation = λ is. e.later (e.has.generation ∙ is);
+  clients = map answered_of ended;
+  answered = all-answered start unseen e.all lines scripts ended e.looked are served e.see;
+}
+
+pub untold-played : (file : RunFile) (why : Unplayed) (old new : Writing) (status : ℕ) → IsUntold (start_of file) file.clients.items why
+    → IsSaid old new (untold_text why) → status ≡ 1 → IsPlayed file old new status
+untold-played file unplayed.NoMemory old new status is said failed = refused said failed
+untold-played file (unplayed.Later generation) old new status is said failed = later is said failed
 
 pub told-run : (source : List ℕ) (why : Unread) (out out' err err' : Writing) (status : ℕ) → IsReadAs source (Err why)
     → IsTold why out out' err err' status → IsRun source out out' err err' status

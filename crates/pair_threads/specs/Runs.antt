@@ -1,5 +1,5 @@
 -- What is printed of a file that is run in threads, and the exit status (docs/SCRIPTS.md, "A pair in threads").
-use Rattle.std.specs.Prelude.{◌≡◌, ℕ, ◌+◌, ◌⊎◌, Bool, true, false, List, [], length, codes}
+use Rattle.std.specs.Prelude.{◌≡◌, ◌≢◌, ℕ, ◌+◌, ◌⊎◌, Bool, true, false, List, [], length, codes}
 use Rattle.guest_machine.specs.Guest.{boot_guest}
 use Rattle.pair_history.specs.HistoryState.{HistoryState}
 use Rattle.growing_history.specs.Steps.{Step}
@@ -36,6 +36,15 @@ pub record IsRunFrom (start : HistoryState) (lines : List ClientLine) (epochs : 
   pub count : entries ≡ length (history_of start all)
   pub whole : is_whole ≡ true → IsWhole epochs (state_at start all)
 
+-- A run of these lines, of a pair that starts there, in which a node has failed, as a look at its end found. There is one legal list of
+-- steps, by which the pair is in a later generation than its first, and whose history tells all lines' answers.
+pub record IsLaterRunFrom (start : HistoryState) (lines : List ClientLine) : Type 0 where
+  pub all : List Step
+  pub legal : LegalSteps start all
+  pub generation : (state_at start all).generation ≢ 1
+  pub clients : List Answered
+  pub answered : AreAnswered (history_of start all) lines clients
+
 -- a pair starts with the guest at boot which the file names
 abbrev pub start_of : RunFile → HistoryState
 start_of file =
@@ -43,6 +52,9 @@ start_of file =
 
 abbrev pub IsRunOf : RunFile → List Answered → ℕ → Bool → Type 0
 IsRunOf file clients count is_whole = IsRunFrom (start_of file) file.clients.items file.epochs clients count is_whole
+
+abbrev pub IsLaterRunOf : RunFile → Type 0
+IsLaterRunOf file = IsLaterRunFrom (start_of file) file.clients.items
 
 -- the status of a run that is printed
 abbrev pub status_of : Bool → ℕ
@@ -63,8 +75,8 @@ pub data IsPlayed (file : RunFile) (out out' : Writing) (status : ℕ) : Type 0 
       → WritesFront out out' (run_text clients count) → status ≡ 1 → IsPlayed file out out' status
   -- there is no memory for it, or no thread can be made
   refused : IsSaid out out' (codes "refused 12 NoMemory\n") → status ≡ 1 → IsPlayed file out out' status
-  -- a node has failed in it: the pair isn't in its first generation
-  later : IsSaid out out' (codes "refused 9 Stale\n") → status ≡ 1 → IsPlayed file out out' status
+  -- a node has failed in it
+  later : IsLaterRunOf file → IsSaid out out' (codes "refused 9 Stale\n") → status ≡ 1 → IsPlayed file out out' status
 
 -- Of any bytes: what standard output and standard error get, and the status.
 pub data IsRun (source : List ℕ) (out out' err err' : Writing) (status : ℕ) : Type 0 where

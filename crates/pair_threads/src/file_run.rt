@@ -1,12 +1,13 @@
 //! `remus run FILE`.
-ghost use Rattle.std.specs.Prelude.{◌≡◌, ℕ, ◌+◌, true, [], IfOk, codes};
+ghost use Rattle.std.specs.Prelude.{◌≡◌, ℕ, ◌+◌, true, [], IfOk, IfErr};
 ghost use Rattle.hypervisor.specs.Clients.{own};
 ghost use Rattle.hypervisor.specs.Opening.{new_client, start_with};
 ghost use Rattle.pair_run.specs.RunPrinted.{IsWritten, run_text};
 ghost use Rattle.pair_threads.specs.Lines.{AreClients, clients_of};
-ghost use Rattle.pair_threads.specs.Runs.{IsPlayed, IsRun, IsRunFrom, IsRunOf, IsSaid, status_of};
-ghost use Rattle.pair_threads.specs.internal.Scripts.{AreScripts, HasEnded};
-ghost use Rattle.pair_threads.specs.internal.Shown.{IsShown, IsTold};
+ghost use Rattle.pair_threads.specs.Runs.{IsPlayed, IsRun, IsRunFrom, IsRunOf, IsSaid, start_of, status_of};
+ghost use Rattle.pair_threads.specs.declared.file_run.Unplayed.TheVariants.{NoMemory, Later};
+ghost use Rattle.pair_threads.specs.internal.Scripts.{AreScripts, HasEnded, HasEndedUntold, IsUntold};
+ghost use Rattle.pair_threads.specs.internal.Shown.{IsShown, IsTold, untold_text};
 ghost use Rattle.script_player.specs.Boot.{IsInLimits, boot_line};
 
 use crate::booting::boot_pair;
@@ -48,18 +49,24 @@ enum Unplayed {
 }
 
 impl From<AllocError> for Unplayed {
+    ghost from_gives = { λ _ why. why ≡ NoMemory };
+
     fn from(_: AllocError) -> Unplayed {
         Unplayed::NoMemory
     }
 }
 
 impl From<MemoryWanted> for Unplayed {
+    ghost from_gives = { λ _ why. why ≡ NoMemory };
+
     fn from(_: MemoryWanted) -> Unplayed {
         Unplayed::NoMemory
     }
 }
 
 impl From<LaterGeneration> for Unplayed {
+    ghost from_gives = { λ later why. why ≡ Later later };
+
     fn from(later: LaterGeneration) -> Unplayed {
         Unplayed::Later(later)
     }
@@ -91,7 +98,7 @@ fn tell<O: Sink, E: Sink>(why: &Unread, out: &mut O, err: &mut E) -> u8
             let _ = tell_bad_line(*number, err);
             1
         }
-        Unread::NoMemory(_) => refuse(out),
+        Unread::NoMemory(_) => refuse(Unplayed::NoMemory, out),
     }
 }
 
@@ -108,8 +115,7 @@ fn run_file<R: Threads + Wait + Sync, O: Sink>(
 {
     match play(rt, alloc, file) {
         Ok(played) => print(&played, out),
-        Err(Unplayed::NoMemory) => refuse(out),
-        Err(Unplayed::Later(later)) => refuse_later(later, out),
+        Err(why) => refuse(why, out),
     }
 }
 
@@ -131,21 +137,23 @@ fn status_of(is_whole: bool) -> u8
     if is_whole { 0 } else { 1 }
 }
 
-/// Prints that there is no memory for a run, or no thread. Answers the exit status.
-fn refuse<O: Sink>(out: &mut O) -> u8
+/// Prints why nothing is told of a run. Answers the exit status.
+fn refuse<O: Sink>(why: Unplayed, out: &mut O) -> u8
     ensures status { result ≡ 1 }
-    ensures said { IsSaid (O.written out.old) (O.written out.new) (codes "refused 12 NoMemory\n") }
+    ensures said { IsSaid (O.written out.old) (O.written out.new) (untold_text why) }
 {
-    let _ = write_out(b"refused 12 NoMemory\n", out);
-    1
+    match why {
+        Unplayed::NoMemory => say(b"refused 12 NoMemory\n", out),
+        Unplayed::Later(_) => say(b"refused 9 Stale\n", out),
+    }
 }
 
-/// Prints that a run isn't of the pair's first generation, as was found. Answers the exit status.
-fn refuse_later<O: Sink>(_: LaterGeneration, out: &mut O) -> u8
+/// Prints this text. Answers the exit status of a run of which nothing is told.
+fn say<O: Sink>(text: &[u8], out: &mut O) -> u8
     ensures status { result ≡ 1 }
-    ensures said { IsSaid (O.written out.old) (O.written out.new) (codes "refused 9 Stale\n") }
+    ensures said { IsSaid (O.written out.old) (O.written out.new) text.now }
 {
-    let _ = write_out(b"refused 9 Stale\n", out);
+    let _ = write_out(text, out);
     1
 }
 
@@ -169,7 +177,8 @@ fn write_out<O: Sink>(text: &[u8], out: &mut O) -> Result<(), Failed>
 fn play<R: Threads + Wait + Sync>(rt: &R, alloc: Global, file: RunFile) -> Result<Played, Unplayed>
     requires limits { IsInLimits (boot_line file.boot) }
     requires clients { AreClients file.boot.clients (clients_of file.clients.items) }
-    ensures { IfOk result (λ played. IsRunOf file played.clients.items played.entries played.is_whole) }
+    ensures told { IfOk result (λ played. IsRunOf file played.clients.items played.entries played.is_whole) }
+    ensures why { IfErr result (IsUntold (start_of file) file.clients.items) }
 {
     let pair = boot_pair(alloc, &file.boot)?;
     play_named::<Brand, _>(rt, alloc, pair, file.epochs, file.steps, file.clients)
@@ -191,7 +200,9 @@ fn play_named<P: Pair + Send + Sync, R: Threads + Wait + Sync>(
     requires word { pair.word ≡ P.word }
     requires start { P.start ≡ start_with pair.guest pair.clients }
     requires clients { AreClients pair.clients (clients_of lines.items) }
-    ensures { IfOk result (λ played. IsRunFrom P.start lines.items epochs played.clients.items played.entries played.is_whole) }
+    ensures told { IfOk result (λ played.
+        IsRunFrom P.start lines.items epochs played.clients.items played.entries played.is_whole) }
+    ensures why { IfErr result (IsUntold P.start lines.items) }
 {
     let lists = room_for(alloc, lines.len());
     let Some((lists, assigned)) = both(lists, assign::<P>(alloc, pair, lines)) else {
@@ -237,8 +248,9 @@ fn told<P: Pair, R: Wait>(
 ) -> Result<Played, Unplayed>
     requires answered { lists.answered.items ≡ [] }
     requires clients { lists.clients.items ≡ [] }
-    ensures { IfOk result (λ played.
+    ensures told { IfOk result (λ played.
         HasEnded P.start ended.sessions.items epochs played.clients.items played.entries played.is_whole) }
+    ensures why { IfErr result (HasEndedUntold P.start ended.sessions.items) }
 {
     let Ended {
         sessions,

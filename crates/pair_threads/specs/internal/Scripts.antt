@@ -1,5 +1,5 @@
 -- What a client's thread has.
-use Rattle.std.specs.Prelude.{◌≡◌, ℕ, ◌+◌, ◌≤◌, Bool, true, List, [], ◌∷◌, ◌++◌, length, map, Vec, vec_capacity}
+use Rattle.std.specs.Prelude.{◌≡◌, ◌≢◌, ℕ, ◌+◌, ◌≤◌, Bool, true, List, [], ◌∷◌, ◌++◌, length, map, Vec, vec_capacity}
 use Rattle.std.specs.Global.{Global}
 use Rattle.pair_history.specs.HistoryState.{HistoryState}
 use Rattle.pair_record.specs.declared.event.Reply.{Reply}
@@ -12,7 +12,10 @@ use Rattle.hypervisor.specs.Clients.{ClientState, own}
 use Rattle.hypervisor.specs.Looking.{HasFound, SeeAll}
 use Rattle.hypervisor.specs.Opening.{new_client}
 use Rattle.hypervisor.specs.declared.looking.Found.{Found}
+use Rattle.pair_threads.specs.Runs.{IsLaterRunFrom}
 use Rattle.pair_threads.specs.Told.{HasMade, MayAnswer, entry_told}
+use Rattle.pair_threads.specs.declared.file_run.Unplayed.{Unplayed}
+use Rattle.pair_threads.specs.declared.file_run.Unplayed.TheVariants.{NoMemory, Later}
 
 pub record ScriptState : Type 0 where
   pub client : ClientState
@@ -75,3 +78,23 @@ pub record HasEnded (start : HistoryState) (ended : List ScriptState) (epochs : 
   pub answered : clients ≡ map answered_of ended
   pub count : entries ≡ found.entries
   pub whole : is_whole ≡ true → (found.generation ≡ 1) × (found.next ≡ epochs + 1) × (found.pending ≡ 0)
+
+-- A run has ended, and these are its scripts: there is one list of all steps, which their clients have seen, and by what was found in it
+-- the pair is in a later generation than its first.
+pub record HasEndedLater (start : HistoryState) (ended : List ScriptState) : Type 0 where
+  pub all : List Step
+  pub found : Found
+  pub has : HasFound start all found
+  pub later : found.generation ≢ 1
+  pub looked : List ClientState
+  pub see : SeeAll start all (map client_of ended) looked
+
+-- WHY NOTHING IS TOLD of a run: for want of memory, or since a node has failed in it
+
+abbrev pub HasEndedUntold : HistoryState → List ScriptState → Unplayed → Type 0
+HasEndedUntold start ended NoMemory = Unit {0}
+HasEndedUntold start ended (Later _) = HasEndedLater start ended
+
+abbrev pub IsUntold : HistoryState → List ClientLine → Unplayed → Type 0
+IsUntold start lines NoMemory = Unit {0}
+IsUntold start lines (Later _) = IsLaterRunFrom start lines

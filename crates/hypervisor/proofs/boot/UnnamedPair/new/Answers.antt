@@ -1,4 +1,4 @@
-use Rattle.std.proofs.Common.{◌≡◌, ◌*◌, IfOk, Ok, subst}
+use Rattle.std.proofs.Common.{◌≡◌, IfOk, Ok, subst}
 use Rattle.backup_image.specs.Images.{settled_machine}
 use Rattle.guest_machine.specs.Guest.{boot_guest}
 use Rattle.hypervisor.specs.Opening.{first_image}

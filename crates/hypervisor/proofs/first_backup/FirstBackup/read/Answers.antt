@@ -2,7 +2,7 @@ use Rattle.std.proofs.Common.{subst}
 use Rattle.hypervisor.specs.Backups.{BackupState}
 use Rattle.hypervisor.specs.FirstBackups.{SealedState, IsOfShape, IsReadOrNoMemory}
 use Rattle.hypervisor.proofs.FirstBackups.{checkpoint-read}
-use Rattle.hypervisor.proofs.Unmarked.{packet-first, packet-heard, packet-after, packet-answers}
+use Rattle.hypervisor.proofs.Unmarked.{packet-first, packet-answers}
 use Rattle.hypervisor.proofs.first_backup.FirstBackup.read.Goals as goal
 
 pub invariant_of-self : goal.invariant_of-self
