@@ -4,7 +4,7 @@ from collections import OrderedDict
 
 from host import messages
 from host.dead import Watch
-from host.node import arrive
+from host.node import STEPS, arrive
 from host.text import pages_and_frames
 
 ALONE, FILLING, PAIRED = "alone", "filling", "paired"
@@ -183,7 +183,7 @@ class Live:
             self.is_full = True
             if answer.words[1:2] != [CUT_NEEDED]:
                 self.log.seldom("step", "error", f"the guest can't go on: {b' '.join(answer.words).decode()}")
-            steps = self.node.ask("show").number(-1)
+            steps = self.node.ask("show").number(STEPS)
         else:
             steps = answer.number(1)
             if answer.frames:
