@@ -4,7 +4,8 @@ from collections import OrderedDict
 
 from host import messages
 from host.dead import Watch
-from host.node import arrive
+from host.node import STEPS, arrive
+from host.pacing import TRY_EVERY, Pacer
 from host.text import pages_and_frames
 
 ALONE, FILLING, PAIRED = "alone", "filling", "paired"
@@ -47,7 +48,7 @@ class Live:
         self.held = 0
         self.late, self.acked_at, self.waited_since = 0.0, now, None
         self.longest = 0.0  # seconds from steps of the guest to the next, though it didn't wait
-        self.watch = Watch()
+        self.watch, self.pacer = Watch(), Pacer(self)
         self.start_clock(now)
 
     def start_clock(self, now):
@@ -99,6 +100,8 @@ class Live:
 
     def runs_at(self, now):
         """When the guest is to make its next steps, if no frame comes before."""
+        if self.pacer.is_on(now):
+            return self.pacer.tried_at + TRY_EVERY if self.pacer.is_held else self.guest_begun + (self.made + self.slice) / self.rate
         return self.guest_begun + (self.made + min(self.batch(now), max(self.slice, self.epoch_steps))) / self.rate
 
     def batch(self, now):
@@ -135,6 +138,12 @@ class Live:
         if not ends and not self.has_arrived and now < self.runs_at(now):
             return
         self.has_arrived, steps = False, self.steps_due(now)
+        if self.pacer.is_on(now):
+            if not ends:
+                self.pacer.run(steps, now)
+                return
+            self.was_cut(now, *self.tell(*self.cut_lines()))  # before steps whose pages aren't counted
+            ends, now = False, self.link.now()
         if steps > 0:
             self.longest = max(self.longest, now - self.ran_at)
         lines = [b"step %d" % steps] if steps > 0 and not self.is_full else []
@@ -183,7 +192,7 @@ class Live:
             self.is_full = True
             if answer.words[1:2] != [CUT_NEEDED]:
                 self.log.seldom("step", "error", f"the guest can't go on: {b' '.join(answer.words).decode()}")
-            steps = self.node.ask("show").number(-1)
+            steps = self.node.ask("show").number(STEPS)
         else:
             steps = answer.number(1)
             if answer.frames:
@@ -210,12 +219,14 @@ class Live:
     def was_cut(self, now, cut, text=None):
         if cut.is_refused:
             self.log.seldom("cut", "warning", f"the node can't cut: {b' '.join(cut.words).decode()}")
+            self.pacer.end()  # the guest goes on without it
             return
         self.is_full = False
         if not self.pending:
             self.acked_at = now
         self.cut = cut.number(2)
         self.pending[self.cut] = Pending(cut.number(3), now)
+        self.pacer.was_cut()
         self.counts.epochs += 1
         self.counts.checkpoint_bytes += cut.number(3)
         length = now - self.epoch_begun
@@ -251,7 +262,7 @@ class Live:
             one.is_silent = frames == 0
             if not one.is_silent:
                 self.moved_at = now
-        self.sent += len(data)
+        self.sent, self.pacer.sent_at = self.sent + len(data), now
         if self.sent >= total:
             self.sending, self.sent, self.is_fetched = number + 1, 0, True
         self.link.send(messages.text(self.session, self.generation, number, begin, total, data), now)
@@ -272,6 +283,7 @@ class Live:
             self.sending, self.sent = number + 1, 0
         if self.mode == FILLING:
             self.mode = PAIRED
+            self.pacer.end()
             self.log.info(f"protected: {self.standby[0]} has the full checkpoint of generation {generation}")
         if frames:
             self.put(frames, now)
@@ -300,8 +312,12 @@ class Live:
         self.watch = Watch()
 
     def attach(self, session, standby, now):
+        if not self.is_stopped and (steps := self.steps_due(now)) > 0:  # since it stands while the checkpoint is made
+            self.stepped(*self.tell(b"step %d" % steps), now)
+        self.ran_at = now
         self.protect(now)
         self.session, self.standby = session, standby
+        self.pacer.begin(now)
 
     def resume(self, committed, now):
         """The standby's connection is a new one, and it has committed so much."""
@@ -313,6 +329,7 @@ class Live:
         """The standby has stopped for good: all that is held is let out."""
         answer = self.node.ask("alone")
         self.mode, self.session, self.standby, self.late_ack = ALONE, None, None, None
+        self.pacer.end()
         self.pending, self.cut, self.acked, self.is_full = OrderedDict(), None, None, False
         self.moved_at = now
         self.put(answer.frames, now)

@@ -8,6 +8,7 @@ class Counts:
     def __init__(self):
         self.epochs = self.checkpoint_bytes = self.checkpoint_pages = self.commits = 0
         self.frames_in = self.frames_out = self.frames_dropped = 0
+        self.paced = 0.0  # seconds
         self.steps = self.failovers = self.attachments = self.links = self.dropped_messages = 0
         self.ack_counts, self.ack_sum = [0] * (len(BUCKETS) + 1), 0.0
 
@@ -49,6 +50,8 @@ def text(host):
     one("remus_messages_dropped_total", "counter", "Messages of the link, and connections, that were dropped.", counts.dropped_messages)
     one("remus_steps_total", "counter", "Steps that the guest made here.", counts.steps)
     one("remus_late_seconds_total", "counter", "Guest time that was left out.", float(live.late) if live else 0.0)
+    one("remus_paced_seconds_total", "counter", "Guest time that was left out while a standby was filled, since the guest wrote much.",
+        counts.paced)
     one("remus_longest_stand_seconds", "gauge", "The longest time in which the guest made no step, but for waiting.",
         float(live.longest) if live else 0.0)
     one("remus_failovers_total", "counter", "Times that a standby went live here.", counts.failovers)

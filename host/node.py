@@ -11,6 +11,7 @@ SET_PIPE_SIZE = 1031  # F_SETPIPE_SZ
 # one would get it from the system page by page, which takes longer than the cut itself: up to 256 MiB stay.
 MEMORY = {"MALLOC_MMAP_MAX_": "0", "MALLOC_TRIM_THRESHOLD_": str(256 << 20)}
 WITH_FRAMES, REFUSALS = {b"steps", b"acked", b"alone"}, {b"refused", b"bad"}
+STEPS, WRITTEN = 7, 9  # the places of these numbers in the answer to `show`
 
 
 class NodeEnded(Exception):

@@ -1,6 +1,6 @@
 """A standby: it takes the checkpoints that come over the link, and acknowledges what is committed."""
 from host import messages
-from host.node import Refused, piece
+from host.node import STEPS, Refused, piece
 
 
 class Broken(Exception):
@@ -57,4 +57,4 @@ class Standby:
             self.log.info(f"the full checkpoint of generation {self.generation} is committed: this host can be promoted")
 
     def steps(self):
-        return self.node.ask("show").number(-1)
+        return self.node.ask("show").number(STEPS)

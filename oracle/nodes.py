@@ -137,6 +137,7 @@ def with_frames(answer, frames):
 class Primary:
     def __init__(self, machine, generation):
         self.machine, self.generation, self.mode = machine, generation, ALONE
+        machine.ram.written.clear()
         self.original, self.next, self.pending = None, 1, []  # memory at the last cut; the next number; those not acknowledged
 
     def need_standby(self):
@@ -179,6 +180,7 @@ class Primary:
     def hold(self, c):
         """The checkpoint is pending, and the next epoch begins. Answers how many bytes its text has."""
         self.original, self.machine.disk.written = bytes(self.machine.ram), set()
+        self.machine.ram.written.clear()
         self.pending.append(Pending(c.number, checkpoints.text(c), c.frames))
         self.next = c.number + 1
         return len(self.pending[-1].text)
@@ -362,7 +364,8 @@ class Node:
         mode = EMPTY if not machine else STANDBY if isinstance(node, Standby) else node.mode
         pending = len(node.pending) if isinstance(node, Primary) else 0
         steps = machine.steps if machine else 0
-        return f"mode {mode} generation {node.generation if node else 0} pending {pending} steps {steps}"
+        written = len(machine.ram.written) if isinstance(node, Primary) else 0
+        return f"mode {mode} generation {node.generation if node else 0} pending {pending} steps {steps} written {written}"
 
     def sector(self, s):
         machine = self.machine()

@@ -69,9 +69,10 @@ class Queue:
 
     def put_used(self, ram, head, length):
         _, _, device = self.places(ram)
-        struct.pack_into("<II", ram, device + 4 + 8 * (self.used % self.num), head, length)
+        entry = device + 4 + 8 * (self.used % self.num)
+        ram[entry:entry + 8] = struct.pack("<II", head, length)
         self.taken, self.used = (self.taken + 1) % 2**16, (self.used + 1) % 2**16
-        struct.pack_into("<HH", ram, device, 0, self.used)
+        ram[device:device + 4] = struct.pack("<HH", 0, self.used)
 
 
 def place(ram, address, length):

@@ -1,6 +1,7 @@
 //! A machine, and the texts of its checkpoints that are pending.
 ghost use Rattle.std.specs.Prelude.{◌≡◌, ◌≤◌, ◌<◌, ◌+◌, ◌∷◌, ◌++◌, ℕ, List, [], None, IfSome, OnOk, drop, length, slice_index_or, vec_capacity};
 ghost use Rattle.net_device.specs.Receive.{received};
+ghost use Rattle.guest_machine.specs.Flags.{KeepsFlags};
 ghost use Rattle.guest_machine.specs.Limits.{stepping_frames};
 ghost use Rattle.guest_machine.specs.Runs.{HaveRoom, after_steps, marked_in, sent_in};
 ghost use Rattle.guest_machine.specs.Step.{arrived};
@@ -78,6 +79,7 @@ impl MachineTexts {
         ensures outbox { self.new.machine.outbox ≡ self.old.machine.outbox ++ sent_in result self.old.machine.guest }
         ensures dirty { self.new.machine.dirty ≡ marked_in result self.old.machine.guest self.old.machine.dirty }
         ensures settled { self.new.machine.settled ≡ self.old.machine.settled }
+        ensures flags { KeepsFlags self.old.machine.written self.new.machine.written }
         ensures room { HaveRoom result self.old.machine.guest self.old.machine.outbox }
         ensures cut_needed { result < count → stepping_frames < length self.new.machine.outbox }
         ensures texts { self.new.texts ≡ self.old.texts }
@@ -93,6 +95,7 @@ impl MachineTexts {
         ensures outbox { self.new.machine.outbox ≡ self.old.machine.outbox }
         ensures dirty { self.new.machine.dirty ≡ self.old.machine.dirty }
         ensures settled { self.new.machine.settled ≡ self.old.machine.settled }
+        ensures flags { KeepsFlags self.old.machine.written self.new.machine.written }
         ensures texts { self.new.texts ≡ self.old.texts }
     {
         self.machine.arrive(frame)

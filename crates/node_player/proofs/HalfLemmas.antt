@@ -7,6 +7,7 @@ use Rattle.pair_record.specs.declared.event.Refusal.TheVariants.{CutNeeded}
 use Rattle.pair_core.specs.Lines.{packet}
 use Rattle.pair_nodes.specs.PrimaryCalls.{IsSealed, IsSteps, IsProtected, ack_rows, alone_rows, after_release}
 use Rattle.pair_nodes.specs.Refusing.{IsFree}
+use Rattle.pair_nodes.specs.Flagged.{Flagged, begun_primary}
 use Rattle.pair_nodes.specs.Sides.{Primary, Standby as StandbyNode, after_ack, after_alone, after_piece, live_of, restarted}
 use Rattle.pair_nodes.specs.Sites.{Site, Happens, cuts, hears, goes_alone, protects, steps, lone_steps, gets, restarts, commits, goes_live}
 use Rattle.pair_nodes.specs.Sites.{alone_site, hear_site, live_site, lone_site, piece_site, protect_site}
@@ -38,6 +39,9 @@ pub record PrimaryLaws (s : Site) : Type 0 where
       → IsSteps count s.primary (Ok made) q
       → Happens s (lone_steps made) (lone_site made s) × ((lone_site made s).primary ≡ after_release q)
 
+primary-of : {p q : Flagged} → p ≡ q → p.primary ≡ q.primary
+primary-of e = ap (λ (p : Flagged). p.primary) e
+
 module _ (s : Site) (laws : PrimaryLaws s) (line : Line) where
   -- the steps that were made
   stepped : (count made : ℕ) (q new : Primary) → IsBetween s.primary → IsSteps count s.primary (Ok made) q → new ≡ after_steps q
@@ -58,33 +62,36 @@ module _ (s : Site) (laws : PrimaryLaws s) (line : Line) where
       happens (steps made-so.0) (run_site made-so.0 s) made-so.2 (made-so.3 ∙ sym left)
   refused count why q new is left = stays (left ∙ is.1)
 
-  answered : (no_memory : List ℕ) (count : ℕ) (result : Result ℕ Refusal) (q : Primary) (printed : List ℕ) (new : Primary)
-      → IsBetween s.primary → IsSteps count s.primary result q → IsStepsAnswer no_memory q result printed new → IsPrimarysHalf s line new
-  answered no_memory count (Ok made) q printed new between is answer = stepped count made q new between is answer.1 s.primary.backed refl
-  answered no_memory count (Err why) q printed new between is answer = refused count why q new is answer.1
+  answered : (no_memory : List ℕ) (count : ℕ) (result : Result ℕ Refusal) (q : Flagged) (printed : List ℕ) (new : Flagged)
+      → IsBetween s.primary → IsSteps count s.primary result q.primary → IsStepsAnswer no_memory q result printed new
+      → IsPrimarysHalf s line new.primary
+  answered no_memory count (Ok made) q printed new between is answer =
+      stepped count made q.primary new.primary between is (primary-of answer.1) s.primary.backed refl
+  answered no_memory count (Err why) q printed new between is answer = refused count why q.primary new.primary is (primary-of answer.1)
 
-pub primarys-half : (no_memory : List ℕ) (s : Site) → PrimaryLaws s → (line : Line) (printed : List ℕ) (q : Primary) → IsBetween s.primary
-    → AtPrimary no_memory s.primary line printed q → IsPrimarysHalf s line q
-primarys-half no_memory s laws (boot b) printed q between h = stays h.1
-primarys-half no_memory s laws (arrive bytes) printed q between (inl done) = arrives bytes refl done.1.1
-primarys-half no_memory s laws (arrive bytes) printed q between (inr denied) = stays denied.2.1
-primarys-half no_memory s laws (piece bytes) printed q between h = stays h.1
-primarys-half no_memory s laws (order (Step count)) printed q between h =
+pub primarys-half : (no_memory : List ℕ) (s : Site) (flags : List Bool) → PrimaryLaws s → (line : Line) (printed : List ℕ) (q : Flagged)
+    → IsBetween s.primary → AtPrimary no_memory (record { primary = s.primary; flags = flags }) line printed q
+    → IsPrimarysHalf s line q.primary
+primarys-half no_memory s flags laws (boot b) printed q between h = stays (primary-of h.1)
+primarys-half no_memory s flags laws (arrive bytes) printed q between (inl done) = arrives bytes refl done.1.1
+primarys-half no_memory s flags laws (arrive bytes) printed q between (inr denied) = stays (primary-of denied.2.1)
+primarys-half no_memory s flags laws (piece bytes) printed q between h = stays (primary-of h.1)
+primarys-half no_memory s flags laws (order (Step count)) printed q between h =
     answered s laws (order (Step count)) no_memory count h.0 h.1 printed q between h.2 h.3
-primarys-half no_memory s laws (order Cut) printed q between (inl done) =
-    let made = laws.cut done.1.0 q done.1.1 in happens (cuts made.0) (record s { primary = q }) made.2 refl
-primarys-half no_memory s laws (order Cut) printed q between (inr denied) = stays denied.2.1
-primarys-half no_memory s laws (order (Ack generation number)) printed q between (inl done) =
+primarys-half no_memory s flags laws (order Cut) printed q between (inl done) =
+    let made = laws.cut done.1.0 q.primary done.1.1 in happens (cuts made.0) (record s { primary = q.primary }) made.2 refl
+primarys-half no_memory s flags laws (order Cut) printed q between (inr denied) = stays (primary-of denied.2.1)
+primarys-half no_memory s flags laws (order (Ack generation number)) printed q between (inl done) =
     let made = laws.acknowledge (packet generation number) done.0 in
-    happens (hears (packet generation number)) (hear_site s number) made.0 (made.1 ∙ sym done.1.1)
-primarys-half no_memory s laws (order (Ack generation number)) printed q between (inr denied) = stays denied.2.1
-primarys-half no_memory s laws (order Alone) printed q between (inl done) =
-    let made = laws.alone done.0 between.few in happens goes_alone (alone_site s) made.0 (made.1 ∙ sym done.1.1)
-primarys-half no_memory s laws (order Alone) printed q between (inr denied) = stays denied.2.1
-primarys-half no_memory s laws (order Protect) printed q between (inl done) =
-    let made = laws.protect done.1.0 q done.1.1 in happens (protects made.0) (protect_site s made.0) made.2 made.3
-primarys-half no_memory s laws (order Protect) printed q between (inr denied) = stays denied.2.1
-primarys-half no_memory s laws (order other) printed q between h = stays h.1
+    happens (hears (packet generation number)) (hear_site s number) made.0 (made.1 ∙ sym (primary-of done.1.1))
+primarys-half no_memory s flags laws (order (Ack generation number)) printed q between (inr denied) = stays (primary-of denied.2.1)
+primarys-half no_memory s flags laws (order Alone) printed q between (inl done) =
+    let made = laws.alone done.0 between.few in happens goes_alone (alone_site s) made.0 (made.1 ∙ sym (primary-of done.1.1))
+primarys-half no_memory s flags laws (order Alone) printed q between (inr denied) = stays (primary-of denied.2.1)
+primarys-half no_memory s flags laws (order Protect) printed q between (inl done) =
+    let made = laws.protect done.1.0 q.primary done.1.1 in happens (protects made.0) (protect_site s made.0) made.2 made.3
+primarys-half no_memory s flags laws (order Protect) printed q between (inr denied) = stays (primary-of denied.2.1)
+primarys-half no_memory s flags laws (order other) printed q between h = stays (primary-of h.1)
 
 -- what the laws of a standby's calls say at a site
 pub record StandbyLaws (s : Site) : Type 0 where
@@ -128,6 +135,6 @@ standbys-half no_memory s laws (order Restart) printed new h =
     happens_there restarts (restart_site s) laws.restart.0 (h.1 ∙ ap (λ (b : StandbyNode). standby b) (sym laws.restart.1))
 standbys-half no_memory s laws (order GoLive) printed new (inl done) =
     let made = laws.go_live done.0 in
-    becomes_live (live_site s) made.0 (done.1.1 ∙ ap (λ (p : Primary). primary p) (sym made.1))
+    becomes_live (live_site s) made.0 (done.1.1 ∙ ap (λ (p : Primary). primary (begun_primary p)) (sym made.1))
 standbys-half no_memory s laws (order GoLive) printed new (inr denied) = stays_standby denied.2.1
 standbys-half no_memory s laws (order other) printed new h = stays_standby h.1

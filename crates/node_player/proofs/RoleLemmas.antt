@@ -2,7 +2,7 @@
 use Rattle.std.proofs.Common.{◌≡◌, ℕ, List, Option, Result, Ok, Err, IfOk, refl, ap, ◌∙◌}
 use Rattle.guest_machine.specs.declared.shapes.Shape.{Shape}
 use Rattle.pair_record.specs.declared.event.Refusal.TheVariants.{AlreadyPaired}
-use Rattle.pair_nodes.specs.{PrimaryCalls.booted_primary, Sides.Primary}
+use Rattle.pair_nodes.specs.{Flagged.{Flagged, begun_primary}, PrimaryCalls.booted_primary}
 use Rattle.script_player.specs.{Boot.BootLine, Guests.guest_image, Printed.refusal_line}
 use Rattle.node_player.specs.{AtNothing.IsBooted, Lines.{boot, order}, Meaning.{NodeAnswers, node_sector}, Printed.sector_answer}
 use Rattle.node_player.specs.Nodes.{Node, nothing, primary, standby, node_of}
@@ -23,11 +23,12 @@ waits-once no_memory roles.Nothing pages sectors generation some = absurd (some 
 waits-once no_memory (roles.Primary p) pages sectors generation some = (p, (refl, refl), refl)
 waits-once no_memory (roles.Standby b) pages sectors generation some = (refl, refl)
 
-pub booted-so : {E : Type 0} (r : Result Primary E) (line : BootLine) (shape : Shape) (image : List ℕ)
+pub booted-so : {E : Type 0} (r : Result Flagged E) (line : BootLine) (shape : Shape) (image : List ℕ)
     → shape.pages ≡ line.pages → shape.sectors ≡ line.sectors → image ≡ guest_image line.guest
-    → IfOk r (λ p. p ≡ booted_primary shape image) → IfOk r (IsBooted line)
+    → IfOk r (λ p. p ≡ begun_primary (booted_primary shape image)) → IfOk r (IsBooted line)
 booted-so (Ok p) line shape image pages sectors bytes is =
-    record { shape = shape; pages = pages; sectors = sectors; primary_is = is ∙ ap (booted_primary shape) bytes }
+    let primary = is ∙ ap (λ image. begun_primary (booted_primary shape image)) bytes in
+    record { shape = shape; pages = pages; sectors = sectors; primary_is = primary }
 booted-so (Err e) line shape image pages sectors bytes is = tt
 
 -- a sector is printed, or a bad line's answer

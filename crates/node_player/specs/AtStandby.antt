@@ -8,6 +8,7 @@ use Rattle.pair_record.specs.declared.event.Refusal.{Refusal}
 use Rattle.pair_record.specs.declared.event.Refusal.TheVariants.{AlreadyPaired, NotPaired}
 use Rattle.pair_nodes.specs.declared.standby.Commit.{Commit as CommitAnswer}
 use Rattle.pair_nodes.specs.declared.standby.Commit.TheVariants as commits
+use Rattle.pair_nodes.specs.Flagged.{begun_primary}
 use Rattle.pair_nodes.specs.Sides.{Standby as StandbyNode, live_of, restarted}
 use Rattle.pair_nodes.specs.StandbyCalls.{is_empty, whole_packet, commit_outcome, live_rows}
 use Rattle.script_player.specs.Printed.{line, told_refusal}
@@ -72,7 +73,7 @@ AtStandby no_memory b (order Restart) printed new = (printed ≡ line (codes "re
 AtStandby no_memory b (order GoLive) printed new =
     DoesInMemory no_memory (live_rows b) (standby b) printed new
     ((printed ≡ line (codes "live" ∷ decimal (b.generation + 1) ∷ codes "steps" ∷ decimal b.image.guest.steps ∷ []))
-    × (new ≡ primary (live_of b)))
+    × (new ≡ primary (begun_primary (live_of b))))
 AtStandby no_memory b (order Show) printed new =
-    (printed ≡ show_line (standby_word b) b.generation 0 b.image.guest.steps) × (new ≡ standby b)
+    (printed ≡ show_line (standby_word b) b.generation 0 b.image.guest.steps 0) × (new ≡ standby b)
 AtStandby no_memory b (order (Sector sector)) printed new = (printed ≡ sector_answer sector (image_sector b sector)) × (new ≡ standby b)

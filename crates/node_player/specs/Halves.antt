@@ -1,5 +1,6 @@
 -- What a node's lines do, beside what may happen at two nodes with a bag of messages between them.
 use Rattle.std.specs.Prelude.{◌≡◌, ℕ, List}
+use Rattle.pair_nodes.specs.Flagged.{begun_primary}
 use Rattle.pair_nodes.specs.Sides.{Primary, after_arrival}
 use Rattle.pair_nodes.specs.Sites.{Site, Happening, Happens, goes_live}
 use Rattle.script_player.specs.Session.{IsReply, Replies}
@@ -24,4 +25,4 @@ pub data IsPrimarysHalf (s : Site) (line : Line) (q : Primary) : Type 0 where
 pub data IsStandbysHalf (s : Site) (new : Node) : Type 0 where
   stays_standby : new ≡ standby s.standby → IsStandbysHalf s new
   happens_there : (x : Happening) (t : Site) → Happens s x t → new ≡ standby t.standby → IsStandbysHalf s new
-  becomes_live : (t : Site) → Happens s goes_live t → new ≡ primary t.primary → IsStandbysHalf s new
+  becomes_live : (t : Site) → Happens s goes_live t → new ≡ primary (begun_primary t.primary) → IsStandbysHalf s new

@@ -3,7 +3,7 @@ use Rattle.std.specs.Prelude.{◌≡◌, ℕ, true, false, List, [], Option, Non
 use Rattle.script_player.specs.Meaning.{is_silent}
 use Rattle.script_player.specs.Session.{bad_answer, IsReply, IsServed}
 use Rattle.script_player.specs.Streams.{Reading, Writing}
-use Rattle.pair_nodes.specs.Sides.{Primary}
+use Rattle.pair_nodes.specs.Flagged.{Flagged}
 use Rattle.node_player.specs.AtNothing.{AtNothing}
 use Rattle.node_player.specs.AtPrimary.{AtPrimary}
 use Rattle.node_player.specs.AtStandby.{AtStandby, image_sector}
@@ -14,13 +14,13 @@ use Rattle.node_player.specs.Printed.{sector_named}
 -- the sector that a line's number names, none where the node has no guest or its disk no such sector
 abbrev pub node_sector : Node → ℕ → Option (List ℕ)
 node_sector nothing sector = None
-node_sector (primary p) sector = sector_named p.live.guest.sectors sector
+node_sector (primary p) sector = sector_named p.primary.live.guest.sectors sector
 node_sector (standby b) sector = image_sector b sector
 
 -- A line is answered so. That memory was wanted prints `no_memory`.
 abbrev pub NodeAnswers : List ℕ → Node → Line → List ℕ → Node → Type 0
 NodeAnswers no_memory nothing line printed new = AtNothing no_memory line printed new
-NodeAnswers no_memory (primary p) line printed new = (q : Primary) × AtPrimary no_memory p line printed q × (new ≡ primary q)
+NodeAnswers no_memory (primary p) line printed new = (q : Flagged) × AtPrimary no_memory p line printed q × (new ≡ primary q)
 NodeAnswers no_memory (standby b) line printed new = AtStandby no_memory b line printed new
 
 -- How a line is answered that a session keeps, and the node after it.

@@ -1,11 +1,12 @@
 -- What a node is (docs/NODES.md, "What it holds").
-use Rattle.pair_nodes.specs.Sides.{Primary, Standby}
+use Rattle.pair_nodes.specs.Flagged.{Flagged}
+use Rattle.pair_nodes.specs.Sides.{Standby}
 use Rattle.node_player.specs.declared.role.Role.{Role}
 use Rattle.node_player.specs.declared.role.Role.TheVariants as roles
 
 pub data Node : Type 0 where
   nothing : Node
-  primary : Primary → Node
+  primary : Flagged → Node
   standby : Standby → Node
 
 -- the program's

@@ -37,10 +37,10 @@ abbrev pub malformed_line : ℕ → List ℕ
 malformed_line offset = line (codes "refused" ∷ decimal 11 ∷ codes "Malformed" ∷ decimal offset ∷ [])
 
 -- the state in one line: a word for what the node is
-abbrev pub show_line : List ℕ → ℕ → ℕ → ℕ → List ℕ
-show_line word generation pending steps =
+abbrev pub show_line : List ℕ → ℕ → ℕ → ℕ → ℕ → List ℕ
+show_line word generation pending steps written =
     line (codes "mode" ∷ word ∷ codes "generation" ∷ decimal generation ∷ codes "pending" ∷ decimal pending
-    ∷ codes "steps" ∷ decimal steps ∷ [])
+    ∷ codes "steps" ∷ decimal steps ∷ codes "written" ∷ decimal written ∷ [])
 
 -- The bytes of the sector that a line's number names, none beyond the disk. A disk has 32768 sectors at most, so a number of more than 32
 -- bits is beyond each.

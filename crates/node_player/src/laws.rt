@@ -1,11 +1,11 @@
 //! What a node's lines do is its half of a run of two nodes.
-ghost use Rattle.std.specs.Prelude.{ℕ, List};
+ghost use Rattle.std.specs.Prelude.{ℕ, Bool, List};
 ghost use Rattle.node_player.specs.AtPrimary.{AtPrimary};
 ghost use Rattle.node_player.specs.AtStandby.{AtStandby};
 ghost use Rattle.node_player.specs.Halves.{IsReached, IsPrimarysHalf, IsStandbysHalf};
 ghost use Rattle.node_player.specs.Lines.{Line};
 ghost use Rattle.node_player.specs.Nodes.{Node, primary};
-ghost use Rattle.pair_nodes.specs.Sides.{Primary};
+ghost use Rattle.pair_nodes.specs.Flagged.{Flagged};
 ghost use Rattle.pair_nodes.specs.Sites.{Site};
 
 use pair_nodes::{what_a_primary_does_may_happen, what_a_standby_does_may_happen};
@@ -16,8 +16,9 @@ use pair_nodes::{what_a_primary_does_may_happen, what_a_standby_does_may_happen}
 ///
 /// [`serve`](crate::host::serve) says that each line is answered so, and that a session's node is what its lines so far lead to.
 pub fn lines_are_a_nodes_half_of_a_run()
-    ensures primary { (no_memory : List ℕ) (s : Site) (line : Line) (printed : List ℕ) (q : Primary) → IsReached (primary s.primary)
-        → AtPrimary no_memory s.primary line printed q → IsPrimarysHalf s line q }
+    ensures primary { (no_memory : List ℕ) (s : Site) (flags : List Bool) (line : Line) (printed : List ℕ) (q : Flagged)
+        → IsReached (primary (record { primary = s.primary; flags = flags }))
+        → AtPrimary no_memory (record { primary = s.primary; flags = flags }) line printed q → IsPrimarysHalf s line q.primary }
     ensures standby { (no_memory : List ℕ) (s : Site) (line : Line) (printed : List ℕ) (new : Node)
         → AtStandby no_memory s.standby line printed new → IsStandbysHalf s new }
 {

@@ -159,9 +159,16 @@ pub fn write_malformed(text: &mut Text, offset: u64)
 }
 
 /// Prints the state in one line.
-pub fn write_state(text: &mut Text, word: &str, generation: u64, pending: u64, steps: u64)
+pub fn write_state(
+    text: &mut Text,
+    word: &str,
+    generation: u64,
+    pending: u64,
+    steps: u64,
+    written: u64,
+)
     requires { length word.now ≤ 20 }
-    ensures { text.new.items ≡ show_line word.now generation pending steps }
+    ensures { text.new.items ≡ show_line word.now generation pending steps written }
 {
     write_line(
         text,
@@ -174,6 +181,8 @@ pub fn write_state(text: &mut Text, word: &str, generation: u64, pending: u64, s
             Number(pending),
             Word("steps"),
             Number(steps),
+            Word("written"),
+            Number(written),
         ],
     );
 }

@@ -39,7 +39,7 @@ fn write_role(text: &mut Text, role: &Role)
     ensures { (no_memory : List ℕ) → NodeAnswers no_memory (node_of role.now) (order Show) text.new.items (node_of role.now) }
 {
     match role {
-        Role::Nothing => write_state(text, "empty", 0, 0, 0),
+        Role::Nothing => write_state(text, "empty", 0, 0, 0, 0),
         Role::Primary(primary) => write_primary(text, primary),
         Role::Standby(standby) => write_standby(text, standby),
     }
@@ -51,7 +51,15 @@ fn write_primary(text: &mut Text, primary: &PrimaryNode)
 {
     let word = mode_word(primary.mode());
     let pending = primary.pending() as u64;
-    write_state(text, word, primary.generation(), pending, primary.steps());
+    let written = primary.written() as u64;
+    write_state(
+        text,
+        word,
+        primary.generation(),
+        pending,
+        primary.steps(),
+        written,
+    );
 }
 
 /// Writes the state of a standby.
@@ -59,7 +67,7 @@ fn write_standby(text: &mut Text, standby: &StandbyNode)
     ensures { (no_memory : List ℕ) → AtStandby no_memory standby.now (order Show) text.new.items (standby_node standby.now) }
 {
     let word = standby_word(standby);
-    write_state(text, word, standby.generation(), 0, standby.steps());
+    write_state(text, word, standby.generation(), 0, standby.steps(), 0);
 }
 
 /// The word that is printed of a primary's mode.

@@ -145,7 +145,7 @@ pub fn go_live<O: Sink>(role: &mut Role, out: &mut O) -> Result<(), Failed>
 /// Prints in which generation a primary went live, and from how many steps.
 fn tell_live<O: Sink>(out: &mut O, primary: &PrimaryNode) -> Result<(), Failed>
     ensures { IsPut (O.written out.old) (O.written out.new) result
-        (line (codes "live" ∷ decimal primary.now.generation ∷ codes "steps" ∷ decimal primary.now.live.guest.steps ∷ [])) }
+        (line (codes "live" ∷ decimal primary.now.primary.generation ∷ codes "steps" ∷ decimal primary.now.primary.live.guest.steps ∷ [])) }
 {
     let mut text = Text::new();
     write_generation(

@@ -2,9 +2,9 @@
 use Rattle.std.specs.Prelude.{◌≡◌, ⊤}
 use Rattle.std.specs.Borrow.{follows_so, MutBor, Fml}
 use mathlib.Core.Option.{none}
-use Rattle.pair_nodes.specs.Sides.{Primary}
+use Rattle.pair_nodes.specs.Flagged.{Flagged}
 use Rattle.pair_nodes.specs.contracts.primary.PrimaryNode.{the_row}
 
 -- it is as it was
-abbrev pub IsAsItWas : MutBor Primary → Fml
+abbrev pub IsAsItWas : MutBor Flagged → Fml
 IsAsItWas p = follows_so the_row the_row p.ghost_name none (λ _ _. ⊤) (λ q. q ≡ p.now)

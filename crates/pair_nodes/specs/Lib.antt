@@ -1,6 +1,7 @@
 pub mod internal
 pub mod Refusing
 pub mod Sides
+pub mod Flagged
 pub mod Bounds
 pub mod PrimaryCalls
 pub mod Lending

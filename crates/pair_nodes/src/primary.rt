@@ -3,6 +3,7 @@ ghost use Rattle.std.specs.Prelude.{◌≡◌, ◌≤◌, ◌<◌, ◌+◌, ◌*
 ghost use Rattle.failover.specs.Generations.{generation_limit};
 ghost use Rattle.frame_ports.specs.Addresses.{IsFrame};
 ghost use Rattle.frame_ports.specs.Limits.{number_limit};
+ghost use Rattle.guest_machine.specs.Flags.{KeepsFlags};
 ghost use Rattle.guest_machine.specs.Guest.{sector_in};
 ghost use Rattle.guest_machine.specs.Limits.{page_bytes};
 ghost use Rattle.output_gate.specs.Epochs.{frames_of};
@@ -12,6 +13,7 @@ ghost use Rattle.pair_core.specs.Nodes.{HasShape, node_of};
 ghost use Rattle.checkpoint_stream.specs.Bounds.{most_text};
 ghost use Rattle.full_text.specs.Full.{AreIn, size, whole};
 ghost use Rattle.pair_nodes.specs.Bounds.{IsBoundedPrimary, primary_bytes, most_primary_bytes};
+ghost use Rattle.pair_nodes.specs.Flagged.{begun_primary, unwritten, with_primary, written_of};
 ghost use Rattle.pair_nodes.specs.PrimaryCalls.{booted_primary, mode_of, arrive_rows, cut_refusals, ack_rows, alone_rows, protect_rows};
 ghost use Rattle.pair_nodes.specs.PrimaryCalls.{IsRun, IsSteps, IsSealed, IsProtected, after_release, text_part};
 ghost use Rattle.pair_nodes.specs.Refusing.{IsFree, IsWhy, IsWhyOrMemory};
@@ -44,7 +46,7 @@ const LEAST_FRAME: usize = 14;
 
 const MOST_FRAME: usize = 1514;
 
-/// The node that runs the guest, with or without a standby. Contracts see it as a `Primary` of the specs.
+/// The node that runs the guest, with or without a standby. Contracts see it as a `Flagged` of the specs.
 ///
 /// It keeps no history: only the guest's machine, and of at most four pending checkpoints the texts and the frames.
 pub struct PrimaryNode {
@@ -57,13 +59,13 @@ pub struct PrimaryNode {
 }
 
 impl Model for PrimaryNode {
-    ghost use Rattle.pair_nodes.specs.Sides.{Primary};
+    ghost use Rattle.pair_nodes.specs.Flagged.{Flagged};
 
-    ghost Value = { Primary };
+    ghost Value = { Flagged };
 
-    ghost use Rattle.pair_nodes.specs.internal.NodeFields.{primary_state, IsPrimary};
+    ghost use Rattle.pair_nodes.specs.internal.NodeFields.{flagged_state, IsPrimary};
 
-    ghost view = { primary_state };
+    ghost view = { flagged_state };
 
     ghost invariant = { IsPrimary };
 }
@@ -96,7 +98,7 @@ impl PrimaryNode {
     #[tactic(auto, using(crate::proofs::Sized::sized_at_boot))]
     pub fn boot(alloc: Global, shape: Shape, image: &[u8]) -> Result<PrimaryNode, MemoryWanted>
         requires { length image.now ≤ page_bytes * shape.pages }
-        ensures { IfOk result (λ p. p ≡ booted_primary shape image.now) }
+        ensures { IfOk result (λ p. p ≡ begun_primary (booted_primary shape image.now)) }
     {
         let gate = match Gate::new(alloc) {
             Ok(gate) => gate,
@@ -137,14 +139,17 @@ impl PrimaryNode {
         requires texts { texts.items ≡ [] }
         requires room { most_pending ≤ vec_capacity texts }
         ensures { result ≡ record {
-          live = node_of machine;
-          shape = shape;
-          generation = generation.number;
-          backed = false;
-          to_cut = to_cut;
-          pending = [];
-          texts = [];
-          next_frame = gate.next;
+          primary = record {
+            live = node_of machine;
+            shape = shape;
+            generation = generation.number;
+            backed = false;
+            to_cut = to_cut;
+            pending = [];
+            texts = [];
+            next_frame = gate.next;
+          };
+          flags = machine.written;
         } }
     {
         PrimaryNode {
@@ -159,35 +164,35 @@ impl PrimaryNode {
 
     /// Whether it has a standby, which may still have to be filled.
     pub fn is_backed(&self) -> bool
-        ensures { result ≡ self.now.backed }
+        ensures { result ≡ self.now.primary.backed }
     {
         !matches!(self.generation.mode(), Mode::Alone)
     }
 
     /// Alone; filling, until the full checkpoint is acknowledged; or paired.
     pub fn mode(&self) -> Mode
-        ensures { result ≡ mode_of self.now }
+        ensures { result ≡ mode_of self.now.primary }
     {
         self.generation.mode()
     }
 
     /// The number of its generation, from 1 to 2^62 - 1.
     pub fn generation(&self) -> u64
-        ensures { result ≡ self.now.generation }
+        ensures { result ≡ self.now.primary.generation }
     {
         self.generation.number()
     }
 
     /// The number of the next checkpoint, from 1 to 2^62.
     pub fn to_cut(&self) -> u64
-        ensures { result ≡ self.now.to_cut }
+        ensures { result ≡ self.now.primary.to_cut }
     {
         self.to_cut
     }
 
     /// How many checkpoints are cut and not acknowledged, at most 4.
     pub fn pending(&self) -> usize
-        ensures value { result ≡ length self.now.pending }
+        ensures value { result ≡ length self.now.primary.pending }
         ensures few { result ≤ 4 }
     {
         self.kept.count()
@@ -195,14 +200,22 @@ impl PrimaryNode {
 
     /// How many steps the guest has made since boot, modulo 2^64.
     pub fn steps(&self) -> u64
-        ensures { result ≡ self.now.live.guest.steps }
+        ensures { result ≡ self.now.primary.live.guest.steps }
     {
         self.kept.machine().steps()
     }
 
+    /// How many pages the guest has written since the last cut, or, where there was none, since this primary began, also where their bytes
+    /// are the same as then: so many pages the next cut compares.
+    pub fn written(&self) -> usize
+        ensures { result ≡ written_of self.now }
+    {
+        self.kept.machine().dirty_count()
+    }
+
     /// The bytes of a sector of the guest's disk, none beyond the disk.
     pub fn sector(&self, sector: u32) -> Option<&[u8; SECTOR_BYTES]>
-        ensures { option_map (λ bytes. bytes.now) result ≡ sector_in self.now.live.guest.sectors sector }
+        ensures { option_map (λ bytes. bytes.now) result ≡ sector_in self.now.primary.live.guest.sectors sector }
     {
         if sector < self.kept.machine().sectors() {
             Some(self.kept.machine().sector(sector))
@@ -214,8 +227,8 @@ impl PrimaryNode {
     /// However long it runs, it holds no more than its shape says: the guest's memory twice, its disk, and of at most four checkpoints the
     /// texts and the frames. What it takes beside these lists while it makes a full checkpoint's text isn't counted: docs/LIMITS.md tells it.
     pub fn what_it_holds_is_bounded(&self)
-        ensures lists { IsBoundedPrimary self.now }
-        ensures bytes { primary_bytes self.now ≤ most_primary_bytes self.now.shape }
+        ensures lists { IsBoundedPrimary self.now.primary }
+        ensures bytes { primary_bytes self.now.primary ≤ most_primary_bytes self.now.primary.shape }
     {
         let _shape = self.kept.machine().shape();
         let _written = self.kept.machine().dirty_sectors();
@@ -225,7 +238,7 @@ impl PrimaryNode {
 
     /// What the guest sent since the last cut, or, where it is alone, since the last call of [`release`](PrimaryNode::release).
     pub fn outbox(&self) -> &[Frame]
-        ensures value { result.now ≡ self.now.live.outbox }
+        ensures value { result.now ≡ self.now.primary.live.outbox }
         ensures frames { All IsFrame result.now }
         ensures few { length result.now ≤ 256 }
     {
@@ -234,7 +247,7 @@ impl PrimaryNode {
 
     /// What the guest sent along the epochs of the pending checkpoints, in the order sent.
     pub fn held(&self) -> &[Frame]
-        ensures value { result.now ≡ frames_of self.now.pending }
+        ensures value { result.now ≡ frames_of self.now.primary.pending }
         ensures frames { All IsFrame result.now }
         ensures few { length result.now ≤ 1024 }
     {
@@ -247,7 +260,8 @@ impl PrimaryNode {
     /// [`Refusal::BadFrame`] for fewer or more bytes.
     pub fn arrive(&mut self, bytes: &[u8]) -> Result<(), Refusal>
         ensures free { OnOk result (IsFree (arrive_rows (length bytes.now))) }
-        ensures done { OnOk result (self.new ≡ after_arrival (record { items = bytes.now }) self.old) }
+        ensures done { OnOk result (self.new.primary ≡ after_arrival (record { items = bytes.now }) self.old.primary) }
+        ensures flags { OnOk result (KeepsFlags self.old.flags self.new.flags) }
         ensures why { IfErr result (IsWhy (arrive_rows (length bytes.now))) }
         ensures err { OnErr result (self.new ≡ self.old) }
     {
@@ -267,7 +281,8 @@ impl PrimaryNode {
     /// [`Refusal::CutNeeded`] where it has a standby and the outbox has no room for a step: those before it stay.
     /// [`Refusal::Exhausted`] where it is alone and too few numbers are left for the guest's frames: nothing changes.
     pub fn step(&mut self, count: u64) -> Result<u64, Refusal>
-        ensures { IsSteps count self.old result self.new }
+        ensures steps { IsSteps count self.old.primary result self.new.primary }
+        ensures flags { KeepsFlags self.old.flags self.new.flags }
     {
         let backed = self.is_backed();
         if !backed && self.gate.next() + OUTBOX_FRAMES > LAST_FRAME {
@@ -282,8 +297,9 @@ impl PrimaryNode {
 
     /// The guest makes steps, as many as the outbox has room for and `count` at most.
     fn run(&mut self, count: u64) -> u64
-        requires { self.old.next_frame ≤ last_frame + 256 }
-        ensures { IsRun count result self.old self.new }
+        requires { self.old.primary.next_frame ≤ last_frame + 256 }
+        ensures run { IsRun count result self.old.primary self.new.primary }
+        ensures flags { KeepsFlags self.old.flags self.new.flags }
     {
         let made = self.kept.run(count);
         few_frames(self.kept.machine());
@@ -293,8 +309,8 @@ impl PrimaryNode {
     /// Lets go of what the guest of a primary that is alone has sent: whoever lets it out has done so from
     /// [`outbox`](PrimaryNode::outbox).
     pub fn release(&mut self)
-        requires { self.old.backed ≡ false }
-        ensures { self.new ≡ after_release self.old }
+        requires { self.old.primary.backed ≡ false }
+        ensures { self.new ≡ with_primary self.old (after_release self.old.primary) }
     {
         let sent = self.gate.next() - 1 + self.kept.machine().outbox().len() as u64;
         self.gate.begin(sent);
@@ -307,8 +323,9 @@ impl PrimaryNode {
     /// In this order: [`Refusal::NotPaired`] where it is alone; [`Refusal::Behind`] at four pending checkpoints; [`Refusal::Exhausted`]
     /// where the checkpoint has no number below 2^62, or too few are left for frames; [`Refusal::NoMemory`]. Nothing changes then.
     pub fn cut(&mut self) -> Result<usize, Refusal>
-        ensures done { IfOk result (λ count. IsSealed self.old count self.new) }
-        ensures why { IfErr result (IsWhyOrMemory (cut_refusals self.old)) }
+        ensures done { IfOk result (λ count. IsSealed self.old.primary count self.new.primary) }
+        ensures flags { OnOk result (self.new.flags ≡ unwritten self.old.flags) }
+        ensures why { IfErr result (IsWhyOrMemory (cut_refusals self.old.primary)) }
         ensures err { OnErr result (self.new ≡ self.old) }
     {
         if !self.is_backed() {
@@ -338,12 +355,13 @@ impl PrimaryNode {
     /// # Errors
     /// The growth that was really refused. Nothing changes then.
     fn seal(&mut self, text: Vec<u8>) -> Result<(), MemoryWanted>
-        requires backed { self.old.backed ≡ true }
-        requires few { length self.old.pending < most_pending }
-        requires number { self.old.to_cut < number_limit }
-        requires frames { self.old.next_frame ≤ last_frame }
-        requires short { length text.items ≤ most_text self.old.shape }
-        ensures done { OnOk result (self.new ≡ after_cut self.old text.items) }
+        requires backed { self.old.primary.backed ≡ true }
+        requires few { length self.old.primary.pending < most_pending }
+        requires number { self.old.primary.to_cut < number_limit }
+        requires frames { self.old.primary.next_frame ≤ last_frame }
+        requires short { length text.items ≤ most_text self.old.primary.shape }
+        ensures done { OnOk result (self.new.primary ≡ after_cut self.old.primary text.items) }
+        ensures flags { OnOk result (self.new.flags ≡ unwritten self.old.flags) }
         ensures err { OnErr result (self.new ≡ self.old) }
     {
         self.kept.keep()?;
@@ -355,9 +373,9 @@ impl PrimaryNode {
 
     /// The text of the checkpoint that a cut would make.
     fn delta(&self) -> Result<Vec<u8>, MemoryWanted>
-        requires { self.now.to_cut < number_limit }
-        ensures text { IfOk result (λ text. IsDelta self.now text.items) }
-        ensures short { IfOk result (λ text. length text.items ≤ most_text self.now.shape) }
+        requires { self.now.primary.to_cut < number_limit }
+        ensures text { IfOk result (λ text. IsDelta self.now.primary text.items) }
+        ensures short { IfOk result (λ text. length text.items ≤ most_text self.now.primary.shape) }
     {
         let generation = self.generation.number();
         let checkpoint = match cut_delta(self.alloc, self.kept.machine(), generation, self.to_cut) {
@@ -376,8 +394,8 @@ impl PrimaryNode {
     /// [`Refusal::NotPaired`] where it is alone; [`Refusal::Gap`] where no checkpoint of that number is pending.
     pub fn text(&mut self, number: u64, from: u64, count: u64) -> Result<&[u8], Refusal>
         ensures* same { sem 𝓛 (IsAsItWas self.entry) }
-        ensures part { IfOk result (λ part. text_part self.old number from count ≡ Ok part.now) }
-        ensures why { IfErr result (λ why. text_part self.old number from count ≡ Err why) }
+        ensures part { IfOk result (λ part. text_part self.old.primary number from count ≡ Ok part.now) }
+        ensures why { IfErr result (λ why. text_part self.old.primary number from count ≡ Err why) }
     {
         if !self.is_backed() {
             return Err(Refusal::NotPaired);
@@ -395,10 +413,10 @@ impl PrimaryNode {
     /// # Errors
     /// Why [`acknowledge`](PrimaryNode::acknowledge) refuses it.
     pub fn let_out(&self, ack: Packet) -> Result<&[Frame], Refusal>
-        ensures free { OnOk result (IsFree (ack_rows self.now ack)) }
-        ensures frames { IfOk result (λ frames. frames.now ≡ let_out self.now ack.number) }
+        ensures free { OnOk result (IsFree (ack_rows self.now.primary ack)) }
+        ensures frames { IfOk result (λ frames. frames.now ≡ let_out self.now.primary ack.number) }
         ensures each { IfOk result (λ frames. All IsFrame frames.now) }
-        ensures why { IfErr result (IsWhy (ack_rows self.now ack)) }
+        ensures why { IfErr result (IsWhy (ack_rows self.now.primary ack)) }
     {
         if !self.is_backed() {
             return Err(Refusal::NotPaired);
@@ -420,9 +438,9 @@ impl PrimaryNode {
     /// In this order: [`Refusal::NotPaired`] where it is alone; [`Refusal::Stale`] for another generation; [`Refusal::Gap`] for a number
     /// that was never cut. Nothing changes then.
     pub fn acknowledge(&mut self, ack: Packet) -> Result<(), Refusal>
-        ensures free { OnOk result (IsFree (ack_rows self.old ack)) }
-        ensures done { OnOk result (self.new ≡ after_ack self.old ack.number) }
-        ensures why { IfErr result (IsWhy (ack_rows self.old ack)) }
+        ensures free { OnOk result (IsFree (ack_rows self.old.primary ack)) }
+        ensures done { OnOk result (self.new ≡ with_primary self.old (after_ack self.old.primary ack.number)) }
+        ensures why { IfErr result (IsWhy (ack_rows self.old.primary ack)) }
         ensures err { OnErr result (self.new ≡ self.old) }
     {
         match self.let_out(ack) {
@@ -435,9 +453,9 @@ impl PrimaryNode {
 
     /// The pending checkpoints up to this number, which was cut, are let go.
     fn let_go(&mut self, number: u64)
-        requires backed { self.old.backed ≡ true }
-        requires cut { number < self.old.to_cut }
-        ensures { self.new ≡ after_ack self.old number }
+        requires backed { self.old.primary.backed ≡ true }
+        requires cut { number < self.old.primary.to_cut }
+        ensures { self.new ≡ with_primary self.old (after_ack self.old.primary number) }
     {
         let first = self.to_cut - self.kept.count() as u64;
         let count = (number + 1).saturating_sub(first);
@@ -452,9 +470,9 @@ impl PrimaryNode {
     /// # Errors
     /// [`Refusal::NotPaired`] where it is alone. It is handed back as it was.
     pub fn alone(self) -> Result<PrimaryNode, (PrimaryNode, Refusal)>
-        ensures free { OnOk result (IsFree (alone_rows self)) }
-        ensures done { IfOk result (λ p. p ≡ after_alone self) }
-        ensures why { IfErr result (λ refused. IsWhy (alone_rows self) refused.1) }
+        ensures free { OnOk result (IsFree (alone_rows self.primary)) }
+        ensures done { IfOk result (λ p. p ≡ with_primary self (after_alone self.primary)) }
+        ensures why { IfErr result (λ refused. IsWhy (alone_rows self.primary) refused.1) }
         ensures err { IfErr result (λ refused. refused.0 ≡ self) }
     {
         if !self.is_backed() {
@@ -490,8 +508,9 @@ impl PrimaryNode {
     /// In this order: [`Refusal::AlreadyPaired`] where it has a standby; [`Refusal::Exhausted`] where there is no next generation;
     /// [`Refusal::NoMemory`]. It is handed back as it was.
     pub fn protect(self) -> Result<(PrimaryNode, usize), (PrimaryNode, Refusal)>
-        ensures done { IfOk result (λ made. IsProtected self made.1 made.0) }
-        ensures why { IfErr result (λ refused. IsWhyOrMemory (protect_rows self) refused.1) }
+        ensures done { IfOk result (λ made. IsProtected self.primary made.1 made.0.primary) }
+        ensures flags { IfOk result (λ made. made.0.flags ≡ unwritten self.flags) }
+        ensures why { IfErr result (λ refused. IsWhyOrMemory (protect_rows self.primary) refused.1) }
         ensures err { IfErr result (λ refused. refused.0 ≡ self) }
     {
         match self.full() {
@@ -505,12 +524,12 @@ impl PrimaryNode {
 
     /// The text of the full checkpoint of its guest, in the next generation. Of memory it is only found what isn't all zero.
     fn full(&self) -> Result<FullText, Refusal>
-        ensures free { OnOk result (IsFree (protect_rows self.now)) }
-        ensures text { IfOk result (λ full. IsFull self.now (whole self.now.live.guest.ram full)) }
-        ensures short { IfOk result (λ full. length (whole self.now.live.guest.ram full) ≤ most_text self.now.shape) }
-        ensures size { IfOk result (λ full. length (whole self.now.live.guest.ram full) ≡ size full) }
-        ensures pages { IfOk result (λ full. AreIn (length self.now.live.guest.ram) full.pages) }
-        ensures why { IfErr result (IsWhyOrMemory (protect_rows self.now)) }
+        ensures free { OnOk result (IsFree (protect_rows self.now.primary)) }
+        ensures text { IfOk result (λ full. IsFull self.now.primary (whole self.now.primary.live.guest.ram full)) }
+        ensures short { IfOk result (λ full. length (whole self.now.primary.live.guest.ram full) ≤ most_text self.now.primary.shape) }
+        ensures size { IfOk result (λ full. length (whole self.now.primary.live.guest.ram full) ≡ size full) }
+        ensures pages { IfOk result (λ full. AreIn (length self.now.primary.live.guest.ram) full.pages) }
+        ensures why { IfErr result (IsWhyOrMemory (protect_rows self.now.primary)) }
     {
         if self.is_backed() {
             return Err(Refusal::AlreadyPaired);
@@ -527,11 +546,11 @@ impl PrimaryNode {
 
     /// That text, where there is a next generation.
     fn full_text(&self) -> Result<FullText, MemoryWanted>
-        requires { self.now.generation + 1 < generation_limit }
-        ensures text { IfOk result (λ full. IsFull self.now (whole self.now.live.guest.ram full)) }
-        ensures short { IfOk result (λ full. length (whole self.now.live.guest.ram full) ≤ most_text self.now.shape) }
-        ensures size { IfOk result (λ full. length (whole self.now.live.guest.ram full) ≡ size full) }
-        ensures pages { IfOk result (λ full. AreIn (length self.now.live.guest.ram) full.pages) }
+        requires { self.now.primary.generation + 1 < generation_limit }
+        ensures text { IfOk result (λ full. IsFull self.now.primary (whole self.now.primary.live.guest.ram full)) }
+        ensures short { IfOk result (λ full. length (whole self.now.primary.live.guest.ram full) ≤ most_text self.now.primary.shape) }
+        ensures size { IfOk result (λ full. length (whole self.now.primary.live.guest.ram full) ≡ size full) }
+        ensures pages { IfOk result (λ full. AreIn (length self.now.primary.live.guest.ram) full.pages) }
     {
         let generation = self.generation.number();
         FullText::new(self.alloc, self.kept.machine(), generation + 1)
@@ -539,10 +558,13 @@ impl PrimaryNode {
 
     /// Its standby is to be filled by the full checkpoint of this text, which is pending.
     fn protected(self, full: FullText) -> PrimaryNode
-        requires free { IsFree (protect_rows self) }
-        requires short { length (whole self.live.guest.ram full) ≤ most_text self.shape }
-        requires pages { AreIn (length self.live.guest.ram) full.pages }
-        ensures { result ≡ after_protect self (whole self.live.guest.ram full) }
+        requires free { IsFree (protect_rows self.primary) }
+        requires short { length (whole self.primary.live.guest.ram full) ≤ most_text self.primary.shape }
+        requires pages { AreIn (length self.primary.live.guest.ram) full.pages }
+        ensures { result ≡ record {
+          primary = after_protect self.primary (whole self.primary.live.guest.ram full);
+          flags = unwritten self.flags;
+        } }
     {
         let PrimaryNode {
             alloc,

@@ -7,6 +7,7 @@ ghost use Rattle.frame_ports.specs.Limits.{number_limit};
 ghost use Rattle.guest_machine.specs.Guest.{HasDeviceRecords, sector_in};
 ghost use Rattle.pair_record.specs.Limits.{most_pending};
 ghost use Rattle.pair_nodes.specs.Bounds.{IsBoundedStandby, standby_bytes, most_standby_bytes};
+ghost use Rattle.pair_nodes.specs.Flagged.{begun_primary};
 ghost use Rattle.pair_nodes.specs.Refusing.{IsFree, IsWhyOrMemory};
 ghost use Rattle.pair_record.specs.Tables.{first_refusal};
 ghost use Rattle.pair_nodes.specs.Sides.{to_commit, live_of, new_standby, restarted, after_commit};
@@ -278,7 +279,7 @@ impl StandbyNode {
     /// [`Refusal::NoMemory`]. It is handed back as it was.
     pub fn go_live(self) -> Result<PrimaryNode, (StandbyNode, Refusal)>
         ensures free { OnOk result (IsFree (live_rows self)) }
-        ensures done { IfOk result (λ p. p ≡ live_of self) }
+        ensures done { IfOk result (λ p. p ≡ begun_primary (live_of self)) }
         ensures why { IfErr result (λ refused. IsWhyOrMemory (live_rows self) refused.1) }
         ensures err { IfErr result (λ refused. refused.0 ≡ self) }
     {
@@ -299,7 +300,7 @@ impl StandbyNode {
         requires free { IsFree (live_rows self) }
         requires texts { texts.items ≡ [] }
         requires room { most_pending ≤ vec_capacity texts }
-        ensures { result ≡ live_of self }
+        ensures { result ≡ begun_primary (live_of self) }
     {
         let to_cut = self.to_commit();
         let StandbyNode {

@@ -1,4 +1,5 @@
-//! `remus node` in plain Rust: one host of a pair, written from the tables of docs/NODES.md. A cut compares all memory with what it was.
+//! `remus node` in plain Rust: one host of a pair, written from the tables of docs/NODES.md. A cut compares all memory with what it was,
+//! and which pages were written isn't kept: the line of `show` ends before their number.
 
 use crate::checkpoints::{cut_page, encode, Delta, PAGE, SECTOR};
 use crate::guests;

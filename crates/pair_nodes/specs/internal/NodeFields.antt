@@ -10,6 +10,7 @@ use Rattle.pair_core.specs.Nodes.{HasShape, node_of}
 use Rattle.pair_nodes.specs.declared.primary.PrimaryNode.TheInside.{Inside as PrimaryFields}
 use Rattle.pair_nodes.specs.declared.standby.StandbyNode.TheInside.{Inside as StandbyFields}
 use Rattle.checkpoint_stream.specs.Bounds.{most_text}
+use Rattle.pair_nodes.specs.Flagged.{Flagged}
 use Rattle.pair_nodes.specs.PrimaryCalls.{mode_of}
 use Rattle.pair_nodes.specs.Sides.{Primary, Standby, to_commit}
 use Rattle.pair_nodes.specs.StandbyCalls.{is_empty}
@@ -25,6 +26,9 @@ primary_state a = record {
   texts = a.kept.texts;
   next_frame = a.gate.next;
 }
+
+abbrev pub flagged_state : PrimaryFields → Flagged
+flagged_state a = record { primary = primary_state a; flags = a.kept.machine.written }
 
 -- The guest has its shape; what is pending has consecutive numbers up to the last one cut, is at most four checkpoints, each with its text, and none where it is
 -- alone; the mode is what that says; and the frames that it may still let out have numbers.

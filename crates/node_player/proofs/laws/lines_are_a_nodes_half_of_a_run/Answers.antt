@@ -3,9 +3,9 @@ use Rattle.node_player.proofs.HalfLemmas.{primarys-half, standbys-half}
 use Rattle.node_player.proofs.laws.lines_are_a_nodes_half_of_a_run.Goals as goal
 
 pub returns-clause-primary : goal.returns-clause-primary
-returns-clause-primary c = λ no_memory s line printed q reached h.
+returns-clause-primary c = λ no_memory s flags line printed q reached h.
     let laws = c.what_a_primary_does_may_happen.ensures in
-    primarys-half no_memory s (record {
+    primarys-half no_memory s flags (record {
       cut = laws.cut s;
       acknowledge = laws.acknowledge s;
       alone = laws.alone s;
@@ -13,7 +13,7 @@ returns-clause-primary c = λ no_memory s line printed q reached h.
       step = laws.step s;
       full = laws.full s;
       lone = laws.lone s;
-    }) line printed q (reached-between s.primary reached) h
+    }) line printed q (reached-between (record { primary = s.primary; flags = flags }) reached) h
 
 pub returns-clause-standby : goal.returns-clause-standby
 returns-clause-standby c = λ no_memory s line printed new h.

@@ -4,7 +4,7 @@ use Rattle.node_player.proofs.runs.arrive.Goals as goal
 pub returns-in-Ok : goal.returns-in-Ok
 returns-in-Ok g c =
     let done = c.in-Ok.ensures in
-    (_, c.tell.ensures, rw c.in-Primary.is (c.arrive.new.self, inl (done.free, (refl, done.done)), refl))
+    (_, c.tell.ensures, rw c.in-Primary.is (c.arrive.new.self, inl (done.free, (refl, done.done, done.flags)), refl))
 
 pub returns-in-Err : goal.returns-in-Err
 returns-in-Err g c =

@@ -1,5 +1,5 @@
 -- What a delta's text reads back as.
-use Rattle.std.proofs.Common.{List, ℕ, subst}
+use Rattle.std.proofs.Common.{ap, List, ℕ, subst}
 use Rattle.std.proofs.lemmas.Result.{IfOk-weaker}
 use Rattle.epoch_snapshot.specs.Bases.{IsBase}
 use Rattle.guest_machine.specs.Guest.{Guest, State}
@@ -7,6 +7,7 @@ use Rattle.guest_machine.specs.declared.shapes.Shape.{Shape}
 use Rattle.pair_core.specs.Nodes.{HasShape, machine_of, node_of}
 use Rattle.pair_core.specs.Texts.{IsText}
 use Rattle.pair_core.specs.laws.Nodes.{base-of, delta-text}
+use Rattle.pair_nodes.specs.Flagged.{Flagged}
 use Rattle.pair_nodes.proofs.primary.PrimaryNode.delta.Goals as goal
 
 -- it is the text of what this machine changed
@@ -19,7 +20,8 @@ returns-clause-text c =
     let m = c.machine.result.now in
     let shape = c.self.inside.shape in
     IfOk-weaker c.text_of-text.result _ _
-    (λ text reads. rw (← c.self.view_is) (subst (IsOf shape c.self.inside.generation.number c.self.inside.to_cut text.items) c.machine.ensures (λ base is sized.
+    (λ text reads. rw (← ap (λ (p : Flagged). p.primary) c.self.view_is)
+    (subst (IsOf shape c.self.inside.generation.number c.self.inside.to_cut text.items) c.machine.ensures (λ base is sized.
     subst (λ n. IsText shape n c.self.inside.to_cut base m.guest m.outbox text.items) c.number-generation.ensures.number
     (delta-text m.settled m.dirty m.outbox m c.number-generation.result c.self.inside.to_cut c.in-Ok.checkpoint shape text.items base
     c.in-Ok.ensures.parts reads (c.in-Ok.ensures.image base (base-of m base is)) sized)))) c.text_of-text.ensures.read

@@ -1,5 +1,5 @@
 -- What a full checkpoint's text reads back as, and how long it is.
-use Rattle.std.proofs.Common.{[], ◌≤◌, ◌+◌, ℕ, length, sym, subst, arith}
+use Rattle.std.proofs.Common.{ap, [], ◌≤◌, ◌+◌, ℕ, length, sym, subst, arith}
 use Rattle.std.proofs.lemmas.Result.{IfOk-weaker}
 use Rattle.checkpoint_stream.specs.Bounds.{most_text}
 use Rattle.epoch_snapshot.specs.Cuts.{used_sectors}
@@ -9,6 +9,7 @@ use Rattle.guest_machine.specs.declared.shapes.Shape.{Shape}
 use Rattle.pair_core.specs.Nodes.{HasShape}
 use Rattle.pair_core.specs.Texts.{IsText}
 use Rattle.pair_core.specs.laws.Nodes.{delta-text}
+use Rattle.pair_nodes.specs.Flagged.{Flagged}
 use Rattle.pair_nodes.proofs.primary.PrimaryNode.full_text.Goals as goal
 
 -- it is the text of a full checkpoint of this machine
@@ -29,7 +30,8 @@ pub returns-clause-text : goal.returns-clause-text
 returns-clause-text c =
     let shape = c.self.inside.shape in
     IfOk-weaker c.new.result _ _
-    (λ f h. rw (← c.self.view_is) (subst (IsOf shape (c.self.inside.generation.number + 1) f) c.machine.ensures
+    (λ f h. rw (← ap (λ (p : Flagged). p.primary) c.self.view_is)
+    (subst (IsOf shape (c.self.inside.generation.number + 1) f) c.machine.ensures
     (subst (λ n. IsOf shape (n + 1) f c.machine.result.now) c.number-generation.ensures.number
     (is-of shape (c.number-generation.result + 1) f c.machine.result.now h)))) c.new.ensures.text
 
@@ -37,6 +39,7 @@ pub returns-clause-short : goal.returns-clause-short
 returns-clause-short c =
     let shape = c.self.inside.shape in
     IfOk-weaker c.new.result _ _
-    (λ f h. rw (← c.self.view_is) (subst (λ (m : State). length (whole m.guest.ram f) ≤ most_text shape) c.machine.ensures
+    (λ f h. rw (← ap (λ (p : Flagged). p.primary) c.self.view_is)
+    (subst (λ (m : State). length (whole m.guest.ram f) ≤ most_text shape) c.machine.ensures
     (short-of shape (c.number-generation.result + 1) f c.machine.result.now h
     (subst (λ (m : State). HasShape shape m.guest) (sym c.machine.ensures) c.self.invariant.sized)))) c.new.ensures.text

@@ -11,7 +11,7 @@ use Rattle.pair_record.specs.Modes.{is_alone}
 use Rattle.pair_record.specs.Window.{NumberedFrom}
 use Rattle.pair_core.specs.Nodes.{HasShape, node_of}
 use Rattle.checkpoint_stream.specs.Bounds.{most_text}
-use Rattle.pair_nodes.specs.Sides.{Primary}
+use Rattle.pair_nodes.specs.Flagged.{Flagged}
 use Rattle.pair_nodes.specs.internal.NodeFields.{primary_state}
 use Rattle.pair_nodes.proofs.Pending.{Left, left_of, not_full, mode_paired}
 use Rattle.pair_nodes.proofs.primary.PrimaryNode.let_go.Goals as goal
@@ -20,7 +20,7 @@ use Rattle.pair_nodes.proofs.primary.PrimaryNode.let_go.Goals.{After-end_filling
 left : (c : After-end_filling) → Left c.args.number (c.self.inside.to_cut - length c.self.inside.gate.epochs) c.self.inside.gate.epochs
 left c =
     left_of c.args.number (c.self.inside.to_cut - length c.self.inside.gate.epochs) c.self.inside.gate.epochs c.self.invariant.numbered
-    (omega (arith, c.self.invariant.most, c.requires.cut, ap (λ (p : Primary). p.to_cut) c.self.view_is))
+    (omega (arith, c.self.invariant.most, c.requires.cut, ap (λ (p : Flagged). p.primary.to_cut) c.self.view_is))
 
 pub invariant_of-self : goal.invariant_of-self
 invariant_of-self c =
@@ -57,12 +57,12 @@ invariant_of-self c =
           (All-drop (λ t. length t ≤ most_text a.shape) c.saturating_sub-count.result a.kept.texts inv.short);
       mode = mode_paired c.end_filling.new.generation.mode c.let_go-frames.new.self.epochs paired
           (not_full (a.to_cut - length c.let_go-frames.new.self.epochs) c.let_go-frames.new.self.epochs numbered
-          (omega (arith, long, l.count, l.few, inv.most, c.requires.cut, ap (λ (p : Primary). p.to_cut) c.self.view_is)));
+          (omega (arith, long, l.count, l.few, inv.most, c.requires.cut, ap (λ (p : Flagged). p.primary.to_cut) c.self.view_is)));
       alone = search (arith, rules, paired);
       to_cut = inv.to_cut;
       last_cut = inv.last_cut;
       numbers = omega (arith, next, inv.numbers, ap (λ (m : State). length m.outbox) c.drop_first.ensures.machine);
-      room = search (arith, rules, next, inv.room, c.requires.backed, c.self.view_is);
+      room = search (arith, rules, next, inv.room, c.requires.backed, ap (λ (p : Flagged). p.primary) c.self.view_is);
     }
 
 pub returns : goal.returns
@@ -79,13 +79,18 @@ returns c =
     let live : node_of c.drop_first.new.self.machine ≡ node_of a.kept.machine = ap node_of c.drop_first.ensures.machine in
     let backed : not (is_alone c.end_filling.new.generation.mode) ≡ not (is_alone a.generation.mode) =
     ap (λ (g : GenerationState). not (is_alone g.mode)) c.end_filling.ensures
-    ∙ sym (ap (λ (p : Primary). p.backed) c.self.view_is ∙ c.requires.backed) in
+    ∙ sym (ap (λ (p : Flagged). p.primary.backed) c.self.view_is ∙ c.requires.backed) in
     let number : c.end_filling.new.generation.number ≡ a.generation.number = ap (λ (g : GenerationState). g.number) c.end_filling.ensures in
-    rw (← c.self.view_is) (λ i. record (primary_state a) {
-      live = live i;
-      generation = number i;
-      backed = backed i;
-      pending = es i;
-      texts = texts i;
-      next_frame = next i;
+    let flags : c.drop_first.new.self.machine.written ≡ a.kept.machine.written =
+    ap (λ (m : State). m.written) c.drop_first.ensures.machine in
+    rw (← c.self.view_is) (λ i. record {
+      primary = record (primary_state a) {
+        live = live i;
+        generation = number i;
+        backed = backed i;
+        pending = es i;
+        texts = texts i;
+        next_frame = next i;
+      };
+      flags = flags i;
     })

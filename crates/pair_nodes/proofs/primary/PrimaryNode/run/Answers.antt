@@ -3,7 +3,7 @@ use Rattle.std.proofs.Common.{List, ℕ, length, sym, ap, subst, arith, All, ◌
 use Rattle.checkpoint_stream.specs.Bounds.{most_text}
 use Rattle.guest_machine.specs.Guest.{State}
 use Rattle.pair_core.specs.Nodes.{HasShape}
-use Rattle.pair_nodes.specs.Sides.{Primary}
+use Rattle.pair_nodes.specs.Flagged.{Flagged}
 use Rattle.pair_nodes.proofs.Sized.{sized_after_steps}
 use Rattle.pair_nodes.proofs.primary.PrimaryNode.run.Goals as goal
 
@@ -27,7 +27,7 @@ invariant_of-self c =
         c.few_frames.ensures,
         ap (λ (m : State). length m.outbox) c.machine.ensures,
         c.requires,
-        ap (λ (p : Primary). p.next_frame) c.self.view_is,
+        ap (λ (p : Flagged). p.primary.next_frame) c.self.view_is,
       );
       room = inv.room;
     }

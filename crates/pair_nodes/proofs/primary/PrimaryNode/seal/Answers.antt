@@ -13,7 +13,7 @@ use Rattle.pair_core.specs.Nodes.{HasShape}
 use Rattle.pair_record.specs.Window.{NumberedFrom}
 use Rattle.checkpoint_stream.specs.Bounds.{most_text}
 use Rattle.pair_nodes.specs.PrimaryCalls.{has_full}
-use Rattle.pair_nodes.specs.Sides.{Primary}
+use Rattle.pair_nodes.specs.Flagged.{Flagged}
 use Rattle.pair_nodes.proofs.Pending.{below_all, full-append}
 use Rattle.pair_nodes.proofs.primary.PrimaryNode.seal.Goals as goal
 
@@ -44,10 +44,10 @@ invariant_of-self-2 c =
     let kept = c.keep.ensures in
     let es = a.gate.epochs in
     let e : Epoch = epoch a.to_cut c.outbox.result.now in
-    let few = ap (λ (p : Primary). length p.pending) c.self.view_is in
-    let cut = ap (λ (p : Primary). p.to_cut) c.self.view_is in
-    let frames = ap (λ (p : Primary). p.next_frame) c.self.view_is in
-    let backed = ap (λ (p : Primary). p.backed) c.self.view_is ∙ c.requires.backed in
+    let few = ap (λ (p : Flagged). length p.primary.pending) c.self.view_is in
+    let cut = ap (λ (p : Flagged). p.primary.to_cut) c.self.view_is in
+    let frames = ap (λ (p : Flagged). p.primary.next_frame) c.self.view_is in
+    let backed = ap (λ (p : Flagged). p.primary.backed) c.self.view_is ∙ c.requires.backed in
     let epochs : c.hold.new.self.epochs ≡ es ++ e ∷ [] = ap (λ (g : GateState). g.epochs) c.hold.ensures in
     let next : c.hold.new.self.next ≡ a.gate.next + length c.outbox.result.now = ap (λ (g : GateState). g.next) c.hold.ensures in
     let long = ap (λ (l : List Epoch). length l) epochs in
@@ -55,7 +55,7 @@ invariant_of-self-2 c =
     let first : a.to_cut - length es ≡ (a.to_cut + 1) - length c.hold.new.self.epochs = omega (arith, long, more, inv.most) in
     let place : e.number ≡ (a.to_cut - length es) + length es = omega (arith, inv.most) in
     let out : length c.settle_with.new.self.machine.outbox ≡ 0 = ap (λ (m : State). length m.outbox) c.settle_with.ensures.machine in
-    let short = ap (λ (p : Primary). most_text p.shape) c.self.view_is in
+    let short = ap (λ (p : Flagged). most_text p.primary.shape) c.self.view_is in
     let before = c.keep.new.self.texts in
     record {
       sized = subst (λ (m : State). HasShape a.shape m.guest) (sym c.settle_with.ensures.machine)

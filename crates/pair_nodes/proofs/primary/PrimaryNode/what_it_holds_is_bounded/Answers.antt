@@ -5,6 +5,7 @@ use Rattle.guest_machine.specs.Guest.{State, sector_count}
 use Rattle.guest_machine.specs.Limits.{page_bytes}
 use Rattle.pair_history.specs.Entries.{Frame}
 use Rattle.checkpoint_stream.specs.Bounds.{most_text}
+use Rattle.pair_nodes.specs.Flagged.{Flagged}
 use Rattle.pair_nodes.specs.Sides.{Primary}
 use Rattle.pair_nodes.proofs.Bounding.{primary-bytes, rises_length}
 use Rattle.pair_nodes.proofs.primary.PrimaryNode.what_it_holds_is_bounded.Goals as goal
@@ -13,7 +14,7 @@ pub returns-clause-lists : goal.returns-clause-lists
 returns-clause-lists c =
     let a = c.self.inside in
     let inv = c.self.invariant in
-    let v = c.self.view_is in
+    let v = ap (λ (p : Flagged). p.primary) c.self.view_is in
     record {
       ram = subst (λ (p : Primary). length p.live.guest.ram ≡ page_bytes * p.shape.pages) v inv.sized.ram;
       settled = subst (λ (p : Primary). length p.live.settled ≡ page_bytes * p.shape.pages) v
@@ -38,4 +39,4 @@ returns-clause-lists c =
     }
 
 pub returns-clause-bytes : goal.returns-clause-bytes
-returns-clause-bytes c = primary-bytes c.args.self.now (returns-clause-lists c)
+returns-clause-bytes c = primary-bytes c.args.self.now.primary (returns-clause-lists c)

@@ -1,0 +1,88 @@
+"""How many steps a guest is given while its standby is filled. Until the full checkpoint's text is fetched no epoch ends, and the first cut
+takes as long as there are pages that the guest has written by then. So it may write so many more with each part of the text that is
+fetched; one that has written its part waits for the next part. A guest that writes less makes its steps as ever."""
+from host.node import WRITTEN
+
+AT_ONCE = 256  # pages that it may write before any of the text is fetched
+BUDGET = 1000  # pages that it may have written once all of it is
+STEPS_A_PAGE = 2  # no guest writes a page it hasn't written by fewer steps, but one whose disk writes its memory
+GROWTH = 4  # times as many steps as the last ones, at most, so that one that begins to write is seen
+MOST = 8000  # steps at once: one that begins to write with them writes so many pages more as are compared in 7 ms
+TRY_EVERY = 0.001  # seconds, of one that waits
+PATIENCE = 0.004  # after so many seconds without a step it is given
+FEW = 32  # steps
+STALLED = 0.05  # seconds without a part of the text that the link took
+
+
+class Pace:
+    """Of one filling. `written` is how many pages had been written when it began."""
+
+    def __init__(self, written=0):
+        self.base = self.written = written
+        self.last, self.steps_a_page = 0, STEPS_A_PAGE
+        self.is_held = False  # whether it waits for the next part of the text
+
+    def steps(self, due, part, waited):
+        """How many of the steps that are due it is given at once, where this part of the text is fetched, and it made none for so many
+        seconds. None: it has to wait."""
+        left = self.base + int(AT_ONCE + (BUDGET - AT_ONCE) * part) - self.written
+        self.is_held = left <= 0 and waited < PATIENCE
+        if left <= 0:
+            return 0 if self.is_held else min(due, FEW)
+        return min(due, MOST, max(STEPS_A_PAGE * left, min(GROWTH * self.last, int(self.steps_a_page * left))))
+
+    def made(self, steps, written):
+        """It made these steps, and has written so many pages since the last cut."""
+        more = written - self.written
+        self.last, self.written = steps, written
+        self.steps_a_page = steps / more if more > 0 else GROWTH * max(steps, 1)
+
+
+
+class Pacer:
+    """Paces the guest of a live host from an attachment to the first cut after its full checkpoint was fetched; but not while the link is
+    gone or takes nothing, since then it would wait for long."""
+
+    def __init__(self, live):
+        self.live, self.pace = live, None
+        self.is_counted = True  # whether what the pace knows to be written is all
+        self.sent_at = self.tried_at = 0.0  # when a part of a text was sent, and the guest was to make steps
+
+    def begin(self, now):
+        self.pace, self.is_counted, self.sent_at, self.tried_at = Pace(), True, now, now
+
+    def end(self):
+        self.pace = None
+
+    def was_cut(self):
+        if self.pace is not None:
+            self.pace = None if self.live.is_fetched else Pace()
+
+    @property
+    def is_held(self):
+        return self.pace.is_held
+
+    def is_on(self, now):
+        if self.pace is None:
+            return False
+        is_on = self.live.is_linked and (self.live.is_fetched or now - self.sent_at < STALLED)
+        self.is_counted &= is_on
+        return is_on
+
+    def run(self, due, now):
+        """The steps that are due, a few at a time, as far as the guest's pace lets it. The time that it waits is left out."""
+        live = self.live
+        if not self.is_counted:
+            self.pace, self.is_counted = Pace(live.node.ask("show").number(WRITTEN)), True
+        part = live.sent / live.pending[0].total if live.sending == 0 else 1.0
+        while due > 0 and not live.is_full and (steps := self.pace.steps(due, part, now - live.ran_at)) > 0:
+            before, (step, show) = live.steps, live.tell(b"step %d" % steps, b"show")
+            live.longest, live.ran_at = max(live.longest, now - live.ran_at), now
+            live.stepped(step, now)
+            self.pace.made(live.steps - before, show.number(WRITTEN))
+            due, now = due - steps, live.link.now()
+        self.tried_at = now
+        left = now - live.guest_begun - (live.made + live.slice) / live.rate
+        if self.is_held and left > 0:
+            live.skip(left)
+            live.counts.paced += left
