@@ -24,7 +24,7 @@ class Pace:
 
     def steps(self, due, part, waited):
         """How many of the steps that are due it is given at once, where this part of the text is fetched, and it made none for so many
-        seconds. None: it has to wait."""
+        seconds. 0: it has to wait."""
         left = self.base + int(AT_ONCE + (BUDGET - AT_ONCE) * part) - self.written
         self.is_held = left <= 0 and waited < PATIENCE
         if left <= 0:
@@ -36,7 +36,6 @@ class Pace:
         more = written - self.written
         self.last, self.written = steps, written
         self.steps_a_page = steps / more if more > 0 else GROWTH * max(steps, 1)
-
 
 
 class Pacer:
