@@ -4,29 +4,22 @@ use Rattle.checkpoint_stream.proofs.{StateRead.{low_half, low_quarter, numbers-b
 use Rattle.checkpoint_stream.specs.{declared.rules.{Row.Row, Width.TheVariants.Four, Rule.TheVariants.Magic}, HeadTable.head_table}
 use Rattle.checkpoint_stream.specs.{HeadTable.{passes, number}, Readings.Reading, Sound.{IsHead, change_in, version_from, queue_from}}
 use Rattle.checkpoint_stream.specs.{Sound.device_from, Text.{magic, head_numbers, numbers_from, queue_numbers, device_numbers}}
-use Rattle.std.proofs.Common.{◌≡◌, ℕ, suc, zero, ◌+◌, ◌<◌, ◌^◌, ◌==◌, ◌&&◌, ◌||◌, IsTrue, List, [], ◌∷◌, ◌++◌, length, Bool, true, false}
+use Rattle.std.proofs.Common.{◌≡◌, ℕ, suc, zero, ◌+◌, ◌<◌, ◌^◌, ◌==◌, ◌&&◌, ◌||◌, IsTrue, List, [], ◌∷◌, length, Bool, true, false}
 use Rattle.std.proofs.{Common.{refl, sym, ◌∙◌, ap, arith, nat_le, get_or, slice_index, if◌then◌else◌, lit<}, lemmas.Bool.Decides.nat_tests}
 use Rattle.virtqueue.specs.{declared.rings.Queue.Queue, Queues.boot_queue}
 
 -- each number is as wide as its row
 abbrev pub Narrow : List Row → List ℕ → Type 0
-Narrow rows [] = Unit {0}
-Narrow [] (n ∷ ns) = ⊥
+Narrow [] ns = Unit {0}
+Narrow (row ∷ rows) [] = Unit {0}
 Narrow (row ∷ rows) (n ∷ ns) = (n < limit_of row.width) × Narrow rows ns
 
-pub Narrow-push : (rows : List Row) (ns : List ℕ) (n : ℕ) (d : Row) → length ns < length rows → Narrow rows ns →
-    n < limit_of (get_or rows (length ns) d).width → Narrow rows (ns ++ n ∷ [])
-Narrow-push [] [] n d h all p = absurd (omega (arith, h))
-Narrow-push (row ∷ rows) [] n d h all p = (p, tt)
-Narrow-push [] (m ∷ ns) n d h all p = absurd all
-Narrow-push (row ∷ rows) (m ∷ ns) n d h all p = (all.0, Narrow-push rows ns n d (omega (arith, h)) all.1 p)
-
-Narrow-at : (rows : List Row) (ns : List ℕ) (k : ℕ) (d : Row) → k < length ns → Narrow rows ns →
+Narrow-at : (rows : List Row) (ns : List ℕ) (k : ℕ) (d : Row) → k < length rows → k < length ns → Narrow rows ns →
     get_or ns k 0 < limit_of (get_or rows k d).width
-Narrow-at rows [] k d h all = absurd (omega (arith, h))
-Narrow-at [] (n ∷ ns) k d h all = absurd all
-Narrow-at (row ∷ rows) (n ∷ ns) zero d h all = all.0
-Narrow-at (row ∷ rows) (n ∷ ns) (suc k) d h all = Narrow-at rows ns k d (omega (arith, h)) all.1
+Narrow-at [] ns k d h i all = absurd (omega (arith, h))
+Narrow-at (row ∷ rows) [] k d h i all = absurd (omega (arith, i))
+Narrow-at (row ∷ rows) (n ∷ ns) zero d h i all = all.0
+Narrow-at (row ∷ rows) (n ∷ ns) (suc k) d h i all = Narrow-at rows ns k d (omega (arith, h)) (omega (arith, i)) all.1
 
 flag : (n size : ℕ) → IsTrue (n == 0 || (n == 1 && nat_le 1 size)) → (if n == 1 then 1 else 0) ≡ n
 flag n size h = grind (arith, nat_tests)
@@ -98,7 +91,7 @@ head-kept r h known narrow =
     let xs : List ℕ = r.head in
     let count : 80 ≡ length xs = omega (arith, h.known, known) in
     let at : (k : ℕ) → k < 80 → slice_index xs k < limit_of (get_or head_table k (number Four Magic)).width
-    = λ (k : ℕ) (lt : k < 80). Narrow-at head_table xs k (number Four Magic) (omega (arith, lt, count)) narrow in
+    = λ (k : ℕ) (lt : k < 80). Narrow-at head_table xs k (number Four Magic) lt (omega (arith, lt, count)) narrow in
     before-kept xs _ _ _ _ _ _ _ _ _ _ (magic-back _ (rule-at r 0 h known (lit< tt))) (same-pages _ _ _ (rule-at r 1 h known (lit< tt)))
     (equal _ _ (rule-at r 2 h known (lit< tt))) (low_half _ (at 45 (lit< tt)))
     (device-kept xs _ _ 47 (queue_from xs 53 ∷ queue_from xs 60 ∷ [])

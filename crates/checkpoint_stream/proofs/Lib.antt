@@ -17,8 +17,7 @@ pub mod StateRead
 pub mod TextRead
 pub mod TextLaws
 pub mod TextSizes
-pub mod Fronts
-pub mod Spelled
 pub mod HeadBack
+pub mod ToCome
 pub mod ReadSpelled
 pub mod PlaceLemmas

@@ -1,262 +1,108 @@
 -- What is read whole is the text of what it gives.
-use Rattle.checkpoint_stream.specs.laws.Feeding.{taken-byte, fed-closed, taken-closed}
-use Rattle.checkpoint_stream.proofs.Numbers.{IsByte, limit_of, number-small}
-use Rattle.checkpoint_stream.proofs.{Soundness.{fed_byte-sound, begun-sound}, Spelling.text-spelled, Spelled.{heads, pages_of, sectors_of}}
-use Rattle.checkpoint_stream.proofs.{Spelled.{records_of, ending_of, front, SpellsAt, IsWritten, judged_at-written}, HeadBack.Narrow}
-use Rattle.checkpoint_stream.proofs.HeadBack.{Narrow-push, head-kept}
-use Rattle.checkpoint_stream.specs.declared.{rules.{Row.Row, Width.TheVariants.Four, Rule.TheVariants.Magic}, place.Place.Place}
-use Rattle.checkpoint_stream.specs.declared.place.Place.TheVariants.{Head, PageCount, PageIndex, PageMask, Block, SectorCount, SectorIndex}
-use Rattle.checkpoint_stream.specs.declared.place.Place.TheVariants.{SectorBytes, FrameCount, FrameLength, FrameBytes, Whole, Failed}
-use Rattle.checkpoint_stream.specs.{HeadTable.{head_table, row_at, number}, Readings.{Reading, begun, is_closed, width_of, judged}}
-use Rattle.checkpoint_stream.specs.Readings.{judged_at, fed_byte, fed, taken, moved_if, kept_number, kept_mask, kept_block, kept_sector}
-use Rattle.checkpoint_stream.specs.{Readings.{frame_judged, has_frames}, Sound.{IsSound, IsHead, HasRecords, StandsAt, change_in}}
-use Rattle.checkpoint_stream.specs.Text.{joined, number_units, units_of_frames, text}
-use Rattle.std.proofs.Common.{◌≡◌, ℕ, suc, ◌+◌, ◌<◌, ◌==◌, List, [], ◌∷◌, ◌++◌, length, take, Bool, true, false, All, get_or, refl, sym}
-use Rattle.std.proofs.{Common.{◌∙◌, ap, subst, arith, append_assoc, if◌then◌else◌, length-append}, lemmas.List.append-nil}
-use Rattle.std.proofs.lemmas.{List.Elements.{All-head, All-tail, All-push, All-nil}, Bool.Decides.nat_tests}
+use Rattle.std.proofs.Common.{◌≡◌, ℕ, ◌+◌, ◌<◌, ◌==◌, List, [], ◌∷◌, ◌++◌, length, take, Bool, true, false, All, refl, sym, ◌∙◌, ap}
+use Rattle.std.proofs.Common.{subst, arith, append_assoc, if◌then◌else◌, length-append}
+use Rattle.std.proofs.{Math.Seq.drop-length, lemmas.{Bool.Decides.nat_tests, List.Elements.{All-head, All-tail, All-push, All-nil}}}
 use Rattle.guest_machine.specs.declared.shapes.Shape.{Shape}
+use Rattle.checkpoint_stream.specs.declared.place.Place.{Place, TheVariants.Whole}
+use Rattle.checkpoint_stream.specs.{HeadTable.head_table, Readings.{Reading, begun, is_closed, width_of, judged, fed_byte, fed, taken}}
+use Rattle.checkpoint_stream.specs.Sound.{IsSound, HasRecords, StandsAt, change_in}
+use Rattle.checkpoint_stream.specs.Text.{head_numbers, joined, number_units, page_units, sector_units, units_of_frames, units, text}
+use Rattle.checkpoint_stream.specs.{HeadTable.bytes_of, Taken.Extends, laws.{Feeding.{fed-closed, taken-byte, taken-closed}, Extending.{Extends-itself, fed-extends}}}
+use Rattle.checkpoint_stream.specs.declared.rules.Width.TheVariants.{Four}
+use Rattle.checkpoint_stream.proofs.{Begun.judged-begun, Numbers.IsByte, Soundness.{fed_byte-sound, fed-sound, begun-sound}, HeadBack.head-kept}
+use Rattle.checkpoint_stream.proofs.ToCome.{to_come, LeftAt, IsFirst, Left, left_of, ending, after_head, judged_at-first}
 
-length-head_table : length head_table ≡ 80
-unfolding head_table
-length-head_table = refl
-
--- a unit is judged on what was read, and leaves none begun
-record IsKept (old new : Reading) : Type 0 where
-  head : new.head ≡ old.head
-  partial : new.partial ≡ []
-
-moved_if-kept : (b : Bool) (r : Reading) (place : Place) → IsKept r (moved_if b r place)
-unfolding moved_if
-moved_if-kept true r place = record { head = refl; partial = refl }
-moved_if-kept false r place = record { head = refl; partial = refl }
-
-kept_mask-kept : (b : Bool) (r : Reading) (left page mask : ℕ) → IsKept r (kept_mask b r left page mask)
-unfolding kept_mask
-kept_mask-kept true r left page mask = record { head = refl; partial = refl }
-kept_mask-kept false r left page mask = record { head = refl; partial = refl }
-
-kept_block-kept : (b : Bool) (r : Reading) (left page more : ℕ) (unit : List ℕ) → IsKept r (kept_block b r left page more unit)
-unfolding kept_block
-kept_block-kept true r left page more unit = record { head = refl; partial = refl }
-kept_block-kept false r left page more unit = record { head = refl; partial = refl }
-
-kept_sector-kept : (b : Bool) (r : Reading) (left sector : ℕ) (unit : List ℕ) → IsKept r (kept_sector b r left sector unit)
-unfolding kept_sector
-kept_sector-kept true r left sector unit = record { head = refl; partial = refl }
-kept_sector-kept false r left sector unit = record { head = refl; partial = refl }
-
-frame_judged-kept : (r : Reading) (left len : ℕ) (unit : List ℕ) → IsKept r (frame_judged r left len unit)
-unfolding frame_judged
-frame_judged-kept r left len unit = record { head = refl; partial = refl }
-
--- the head's numbers stay as wide as their rows
-record IsNarrow (r : Reading) : Type 0 where
-  narrow : Narrow head_table r.head
-  begun : r.partial ≡ []
-
-still-narrow : (old new : Reading) → IsKept old new → Narrow head_table old.head → IsNarrow new
-still-narrow old new k n = record { narrow = subst (Narrow head_table) (sym k.head) n; begun = k.partial }
-
-number-narrow : (b : Bool) (r : Reading) (n : ℕ) → IsHead r → r.known < 80 → n < limit_of (row_at r.known).width →
-    Narrow head_table r.head → IsNarrow (kept_number b r (row_at r.known) n)
-unfolding kept_number row_at
-number-narrow false r n h k small narrow = record { narrow = narrow; begun = refl }
-number-narrow true r n h k small narrow = record {
-  narrow = Narrow-push head_table r.head n (number Four Magic) (omega (arith, h.known, k, length-head_table)) narrow
-      (subst (λ (i : ℕ). n < limit_of (get_or head_table i (number Four Magic)).width) (sym h.known) small);
-  begun = refl;
-}
-
-judged_at-narrow : (p : Place) (r : Reading) (unit : List ℕ) → is_closed p ≡ false → IsHead r → StandsAt p r → All IsByte unit →
-    Narrow head_table r.head → IsNarrow (judged_at p r unit)
-judged_at-narrow Head r unit going h s bytes n =
-    number-narrow _ r _ h s.0 (number-small (row_at r.known).width unit bytes) n
-judged_at-narrow PageCount r unit going h s bytes n = still-narrow r _ (moved_if-kept _ r _) n
-judged_at-narrow (PageIndex left from) r unit going h s bytes n = still-narrow r _ (moved_if-kept _ r _) n
-judged_at-narrow (PageMask left page) r unit going h s bytes n = still-narrow r _ (kept_mask-kept _ r _ _ _) n
-judged_at-narrow (Block left page more) r unit going h s bytes n = still-narrow r _ (kept_block-kept _ r _ _ _ _) n
-judged_at-narrow SectorCount r unit going h s bytes n = still-narrow r _ (moved_if-kept _ r _) n
-judged_at-narrow (SectorIndex left from) r unit going h s bytes n = still-narrow r _ (moved_if-kept _ r _) n
-judged_at-narrow (SectorBytes left sector) r unit going h s bytes n = still-narrow r _ (kept_sector-kept _ r _ _ _) n
-judged_at-narrow FrameCount r unit going h s bytes n = still-narrow r _ (moved_if-kept _ r _) n
-judged_at-narrow (FrameLength left) r unit going h s bytes n = still-narrow r _ (moved_if-kept _ r _) n
-judged_at-narrow (FrameBytes left len) r unit going h s bytes n = still-narrow r _ (frame_judged-kept r _ _ _) n
-judged_at-narrow Whole r unit going h s bytes n = cc
-judged_at-narrow (Failed at) r unit going h s bytes n = cc
-
--- these bytes were taken: whole units, and those of the unit that has begun
-record IsSpelled (r : Reading) (done : List ℕ) : Type 0 where
-  sound : IsSound r
-  narrow : Narrow head_table r.head
-  units : List ℕ
-  written : IsWritten r.place r units
-  all : done ≡ units ++ r.partial
+-- bytes of the unit that has begun, and none where nothing more is taken
+record HasBegun (r : Reading) : Type 0 where
   bytes : All IsByte r.partial
   closed : is_closed r.place ≡ true → r.partial ≡ []
 
--- the bytes of a unit that has begun change nothing of what was read
-began-written : (p : Place) (r : Reading) (partial units : List ℕ) → IsWritten p r units →
-    IsWritten p (record r { partial = partial }) units
-began-written (Block left page more) r partial units h = record {
-  opens = record {
-    earlier = h.opens.earlier;
-    last = h.opens.last;
-    before = h.opens.before;
-    own = h.opens.own;
-    pages = h.opens.pages;
-    blocks = h.opens.blocks;
-    count = h.opens.count;
-    due = h.opens.due;
-  };
-  spells = h.spells;
-}
-began-written other r partial units h = record { opens = h.opens; spells = h.spells }
-
-spelled-front : (p : Place) (r : Reading) (units : List ℕ) → is_closed p ≡ false → SpellsAt p r units → units ≡ front p r
-spelled-front Whole r units going h = cc
-spelled-front (Failed at) r units going h = cc
-spelled-front other r units going h = h
-
-regrouped : (units partial done : List ℕ) (b : ℕ) → done ≡ units ++ partial → done ++ b ∷ [] ≡ units ++ (partial ++ b ∷ [])
-regrouped units partial done b e = ap (λ (l : List ℕ). l ++ b ∷ []) e ∙ append_assoc units partial (b ∷ [])
-
-judged-spelled : (r : Reading) (done : List ℕ) (b : ℕ) → IsSpelled r done → is_closed r.place ≡ false → b < 256 →
-    (length r.partial + 1 == width_of r) ≡ true → IsSound (judged r (r.partial ++ b ∷ [])) →
-    IsSpelled (judged r (r.partial ++ b ∷ [])) (done ++ b ∷ [])
-unfolding judged
-judged-spelled r done b h going small full sound =
-    let unit : List ℕ = r.partial ++ b ∷ [] in
-    let bytes : All IsByte unit = All-push IsByte r.partial b h.bytes small in
-    let wide : length unit ≡ width_of r = length-append r.partial (b ∷ []) ∙ eq-true _ _ full in
-    let narrow : IsNarrow (judged_at r.place r unit)
-    = judged_at-narrow r.place r unit going h.sound.head h.sound.place bytes h.narrow in
-    record {
-      sound = sound;
-      narrow = narrow.narrow;
-      units = h.units ++ unit;
-      written = judged_at-written r.place r unit h.units going h.sound.head h.sound.place h.sound.frames h.written.opens
-          (spelled-front r.place r h.units going h.written.spells) bytes wide;
-      all = regrouped h.units r.partial done b h.all ∙ sym (append-nil (h.units ++ unit))
-          ∙ ap (λ (l : List ℕ). (h.units ++ unit) ++ l) (sym narrow.begun);
-      bytes = subst (All IsByte) (sym narrow.begun) (All-nil IsByte);
-      closed = λ _. narrow.begun;
-    }
-  where
-    eq-true : (m n : ℕ) → (m == n) ≡ true → m ≡ n
-    eq-true m n e = grind (arith, nat_tests)
-
-began-spelled : (r : Reading) (done : List ℕ) (b : ℕ) → IsSpelled r done → is_closed r.place ≡ false → b < 256 →
-    IsSound (record r { partial = r.partial ++ b ∷ [] }) → IsSpelled (record r { partial = r.partial ++ b ∷ [] }) (done ++ b ∷ [])
-began-spelled r done b h going small sound = record {
-  sound = sound;
-  narrow = h.narrow;
-  units = h.units;
-  written = began-written r.place r (r.partial ++ b ∷ []) h.units h.written;
-  all = regrouped h.units r.partial done b h.all;
-  bytes = All-push IsByte r.partial b h.bytes small;
-  closed = λ (e : is_closed r.place ≡ true). cc;
-}
-
-fed_byte-spelled : (r : Reading) (done : List ℕ) (b : ℕ) → IsSpelled r done → is_closed r.place ≡ false → b < 256 →
-    IsSpelled (fed_byte r b) (done ++ b ∷ [])
+still-begun : (r : Reading) (b : ℕ) → HasBegun r → b < 256 → is_closed r.place ≡ false → HasBegun (fed_byte r b)
 unfolding fed_byte
-fed_byte-spelled r done b h going small =
-    let sound : IsSound (fed_byte r b) = fed_byte-sound r b h.sound in
-    let sound_here : IsSound (if length r.partial + 1 == width_of r then judged r (r.partial ++ b ∷ [])
-    else record r { partial = r.partial ++ b ∷ [] }) = rw going at sound in
-    rw going (elim (length r.partial + 1 == width_of r) as (λ (full : Bool). (length r.partial + 1 == width_of r) ≡ full →
-    IsSound (if full then judged r (r.partial ++ b ∷ []) else record r { partial = r.partial ++ b ∷ [] }) →
-    IsSpelled (if full then judged r (r.partial ++ b ∷ []) else record r { partial = r.partial ++ b ∷ [] }) (done ++ b ∷ [])) [
-      | true ↦ λ (e : (length r.partial + 1 == width_of r) ≡ true) (s : IsSound (judged r (r.partial ++ b ∷ []))).
-          judged-spelled r done b h going small e s
-      | false ↦ λ (e : (length r.partial + 1 == width_of r) ≡ false) (s : IsSound (record r { partial = r.partial ++ b ∷ [] })).
-          began-spelled r done b h going small s
-    ] refl sound_here)
+still-begun r b h small going =
+    rw going (elim (length r.partial + 1 == width_of r) as (λ (full : Bool).
+    HasBegun (if full then judged r (r.partial ++ b ∷ []) else record r { partial = r.partial ++ b ∷ [] })) [
+      | true ↦ record {
+        bytes = subst (All IsByte) (sym (judged-begun r (r.partial ++ b ∷ []) going)) (All-nil IsByte);
+        closed = λ _. judged-begun r (r.partial ++ b ∷ []) going;
+      }
+      | false ↦ record { bytes = All-push IsByte r.partial b h.bytes small; closed = λ (e : is_closed r.place ≡ true). cc }
+    ])
 
--- what a whole reading was read of
-record IsReadOf (r : Reading) (done : List ℕ) : Type 0 where
-  sound : IsSound r
-  narrow : Narrow head_table r.head
-  spells : done ≡ front Whole r
+-- these bytes are what came from a reading on, up to the whole one
+record IsRest (r f : Reading) (bytes : List ℕ) : Type 0 where
+  left : LeftAt r.place (left_of r f)
+  spells : r.partial ++ bytes ≡ joined (to_come r.place (left_of r f))
 
-whole-read : (p : Place) (r : Reading) (units : List ℕ) → p ≡ Whole → IsWritten p r units → units ≡ front Whole r
-whole-read p r units e h = (subst (λ (q : Place). IsWritten q r units) e h).spells
-
-stays : (r : Reading) (done bytes : List ℕ) → IsSpelled r done → is_closed r.place ≡ true → r.place ≡ Whole → IsReadOf r (done ++ [])
-stays r done bytes h closed e = record {
-  sound = h.sound;
-  narrow = h.narrow;
-  spells = append-nil done ∙ h.all ∙ ap (λ (l : List ℕ). h.units ++ l) (h.closed closed) ∙ append-nil h.units
-      ∙ whole-read r.place r h.units e h.written;
+whole-rest : (r : Reading) → HasBegun r → r.place ≡ Whole → IsRest r r []
+unfolding joined
+whole-rest r h e = record {
+  left = subst (λ (p : Place). LeftAt p (left_of r r)) (sym e) (drop-length r.pages, drop-length r.sectors, drop-length r.frames);
+  spells = ap (λ (l : List ℕ). l ++ []) (h.closed (ap is_closed e)) ∙ ap (λ (p : Place). joined (to_come p (left_of r r))) (sym e);
 }
 
-fed-spelled : (r : Reading) (done bytes : List ℕ) → IsSpelled r done → All IsByte bytes → (fed r bytes).place ≡ Whole →
-    IsReadOf (fed r bytes) (done ++ take (taken r bytes) bytes)
+byte-rest : (r f : Reading) (b : ℕ) (rest : List ℕ) → IsSound r → HasBegun r → b < 256 → is_closed r.place ≡ false →
+    Extends r f → Extends (fed_byte r b) f → IsRest (fed_byte r b) f rest → IsRest r f (b ∷ rest)
+unfolding fed_byte judged joined
+byte-rest r f b rest sound started small going from extends h =
+    elim (length r.partial + 1 == width_of r) as (λ (full : Bool). (length r.partial + 1 == width_of r) ≡ full →
+    Extends (if full then judged r (r.partial ++ b ∷ []) else record r { partial = r.partial ++ b ∷ [] }) f →
+    IsRest (if full then judged r (r.partial ++ b ∷ []) else record r { partial = r.partial ++ b ∷ [] }) f rest → IsRest r f (b ∷ rest)) [
+      | true ↦ λ full extends h.
+          let unit : List ℕ = r.partial ++ b ∷ [] in
+          let first : IsFirst r.place r (judged r unit) f unit
+          = judged_at-first r.place r f unit going sound.head sound.place (All-push IsByte r.partial b started.bytes small)
+          (length-append r.partial (b ∷ []) ∙ equal _ _ full) from.head extends h.left in
+          record {
+            left = first.left;
+            spells = sym (append_assoc r.partial (b ∷ []) rest) ∙ ap (λ (l : List ℕ). unit ++ l)
+                (ap (λ (l : List ℕ). l ++ rest) (sym (judged-begun r unit going)) ∙ h.spells) ∙ sym (ap joined first.units);
+          }
+      | false ↦ λ full extends h. record {
+        left = h.left;
+        spells = sym (append_assoc r.partial (b ∷ []) rest) ∙ h.spells;
+      }
+    ] refl (rw going at extends) (rw going at h)
+  where
+    equal : (m n : ℕ) → (m == n) ≡ true → m ≡ n
+    equal m n e = grind (arith, nat_tests)
+
+fed-rest : (r : Reading) (bytes : List ℕ) → IsSound r → HasBegun r → All IsByte bytes → (fed r bytes).place ≡ Whole →
+    IsRest r (fed r bytes) (take (taken r bytes) bytes)
 unfolding fed taken
-fed-spelled r done [] h all e = stays r done [] h (ap is_closed e) e
-fed-spelled r done (b ∷ bs) h all e =
-    elim (is_closed r.place) as (λ (c : Bool). is_closed r.place ≡ c →
-    IsReadOf (fed r (b ∷ bs)) (done ++ take (taken r (b ∷ bs)) (b ∷ bs))) [
+fed-rest r [] sound begun all e = whole-rest r begun e
+fed-rest r (b ∷ bs) sound begun all e =
+    elim (is_closed r.place) as (λ (c : Bool). is_closed r.place ≡ c → IsRest r (fed r (b ∷ bs)) (take (taken r (b ∷ bs)) (b ∷ bs))) [
       | true ↦ λ (closed : is_closed r.place ≡ true).
           let same : fed r (b ∷ bs) ≡ r = fed-closed r (b ∷ bs) closed in
-          let here : r.place ≡ Whole = sym (ap (λ (s : Reading). s.place) same) ∙ e in
-          let read : IsReadOf r (done ++ take 0 (b ∷ bs)) = stays r done [] h closed here in
-          subst (λ (n : ℕ). IsReadOf (fed r (b ∷ bs)) (done ++ take n (b ∷ bs))) (sym (taken-closed r (b ∷ bs) closed))
-          (subst (λ (s : Reading). IsReadOf s (done ++ take 0 (b ∷ bs))) (sym same) read)
+          subst (λ (n : ℕ). IsRest r (fed r (b ∷ bs)) (take n (b ∷ bs))) (sym (taken-closed r (b ∷ bs) closed))
+          (subst (λ (s : Reading). IsRest r s []) (sym same) (whole-rest r begun (sym (ap (λ (s : Reading). s.place) same) ∙ e)))
       | false ↦ λ (going : is_closed r.place ≡ false).
-          let byte : IsSpelled (fed_byte r b) (done ++ b ∷ []) = fed_byte-spelled r done b h going (All-head IsByte b bs all) in
-          let rest : IsReadOf (fed (fed_byte r b) bs) ((done ++ b ∷ []) ++ take (taken (fed_byte r b) bs) bs)
-          = fed-spelled (fed_byte r b) (done ++ b ∷ []) bs byte (All-tail IsByte b bs all) e in
-          let count : taken r (b ∷ bs) ≡ suc (taken (fed_byte r b) bs) = taken-byte r b bs going in
-          subst (λ (n : ℕ). IsReadOf (fed (fed_byte r b) bs) (done ++ take n (b ∷ bs))) (sym count)
-          (subst (IsReadOf (fed (fed_byte r b) bs)) (append_assoc done (b ∷ []) (take (taken (fed_byte r b) bs) bs)) rest)
+          let small : b < 256 = All-head IsByte b bs all in
+          subst (λ (n : ℕ). IsRest r (fed (fed_byte r b) bs) (take n (b ∷ bs))) (sym (taken-byte r b bs going))
+          (byte-rest r (fed (fed_byte r b) bs) b (take (taken (fed_byte r b) bs) bs) sound begun small going
+          (fed-extends r r (b ∷ bs) (Extends-itself r)) (fed-extends (fed_byte r b) (fed_byte r b) bs (Extends-itself (fed_byte r b)))
+          (fed-rest (fed_byte r b) bs (fed_byte-sound r b sound) (still-begun r b begun small going) (All-tail IsByte b bs all) e))
     ] refl
 
-nothing-read : (rows : List Row) → joined (number_units rows []) ≡ []
-unfolding joined number_units
-nothing-read [] = refl
-nothing-read (row ∷ rows) = refl
-
-begun-spelled : (shape : Shape) (offset : ℕ) → IsSpelled (begun shape offset) []
-begun-spelled shape offset = record {
-  sound = begun-sound shape offset;
-  narrow = tt;
-  units = [];
-  written = record { opens = tt; spells = sym (nothing-read head_table) };
-  all = refl;
-  bytes = All-nil IsByte;
-  closed = λ _. refl;
-}
-
 -- what follows the sector records, by the first number
-ending-text : (r : Reading) (carries : Bool) →
-    ending_of carries r ≡ joined (units_of_frames (if carries then 2 else 1) r.frames)
-unfolding joined
-ending-text r true = refl
-ending-text r false = refl
-
-carried : (r : Reading) → r.known ≡ 80 → has_frames r ≡ (get_or r.head 0 0 == 0x32434d52)
-carried r known = rw known refl
-
-whole-text : (r : Reading) → IsSound r → r.place ≡ Whole → Narrow head_table r.head → front Whole r ≡ text (change_in r)
-unfolding change_in
-whole-text r h whole n =
-    let records : HasRecords r r.shape.pages 0 r.shape.sectors = subst (λ (p : Place). StandsAt p r) whole h.place in
-    let carries : Bool = get_or r.head 0 0 == 0x32434d52 in
-    ap (λ (b : Bool). records_of r ++ ending_of b r) (carried r records.known)
-    ∙ grouped (heads r) (pages_of (length r.pages) r) (sectors_of (length r.sectors) r) (ending_of carries r)
-    ∙ ap (λ (l : List ℕ). heads r ++ (pages_of (length r.pages) r ++ (sectors_of (length r.sectors) r ++ l))) (ending-text r carries)
-    ∙ ap (λ (ns : List ℕ). joined (number_units head_table ns) ++ (pages_of (length r.pages) r
-    ++ (sectors_of (length r.sectors) r ++ joined (units_of_frames (if carries then 2 else 1) r.frames))))
-    (sym (head-kept r h.head records.known n))
-    ∙ sym (text-spelled (change_in r))
-  where
-    grouped : (a b c d : List ℕ) → ((a ++ b) ++ c) ++ d ≡ a ++ (b ++ (c ++ d))
-    grouped a b c d = simp append_assoc
+ending-units : (l : Left) (new : Bool) → ending new l ≡ units_of_frames (if new then 2 else 1) l.frames
+ending-units l true = refl
+ending-units l false = refl
 
 pub read-is-text : (shape : Shape) (offset : ℕ) (bytes : List ℕ) → All IsByte bytes → (fed (begun shape offset) bytes).place ≡ Whole →
     take (taken (begun shape offset) bytes) bytes ≡ text (change_in (fed (begun shape offset) bytes))
+unfolding text units change_in
 read-is-text shape offset bytes all e =
-    let read : IsReadOf (fed (begun shape offset) bytes) ([] ++ take (taken (begun shape offset) bytes) bytes)
-    = fed-spelled (begun shape offset) [] bytes (begun-spelled shape offset) all e in
-    read.spells ∙ whole-text _ read.sound e read.narrow
+    let r : Reading = begun shape offset in
+    let f : Reading = fed r bytes in
+    let l : Left = left_of r f in
+    let h : IsRest r f (take (taken r bytes) bytes)
+    = fed-rest r bytes (begun-sound shape offset) (record { bytes = All-nil IsByte; closed = λ (e : false ≡ true). cc }) all e in
+    let sound : IsSound f = fed-sound r bytes (begun-sound shape offset) in
+    let records : HasRecords f f.shape.pages 0 f.shape.sectors = subst (λ (p : Place). StandsAt p f) e sound.place in
+    h.spells
+    ∙ ap (λ (ns : List ℕ). joined (number_units head_table ns ++ after_head l)) (sym (head-kept f sound.head records.known h.left))
+    ∙ ap (λ (us : List (List ℕ)). joined (number_units head_table (head_numbers (change_in f))
+    ++ ((bytes_of Four (length f.pages) ∷ page_units f.pages f.blocks)
+    ++ ((bytes_of Four (length f.sectors) ∷ sector_units f.sectors) ++ us)))) (ending-units l l.new)

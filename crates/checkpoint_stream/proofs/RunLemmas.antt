@@ -119,6 +119,7 @@ more-of a b c m n e f = f ∙ ap (λ l. l ++ n) e ∙ append_assoc a m n
 pub Extends-both : (a b c : Reading) → Extends a b → Extends b c → Extends a c
 Extends-both a b c e f = record {
   shape = f.shape ∙ e.shape;
+  head = (_, more-of a.head b.head c.head e.head.0 f.head.0 e.head.1 f.head.1);
   pages = (_, more-of a.pages b.pages c.pages e.pages.0 f.pages.0 e.pages.1 f.pages.1);
   blocks = (_, more-of a.blocks b.blocks c.blocks e.blocks.0 f.blocks.0 e.blocks.1 f.blocks.1);
   sectors = (_, more-of a.sectors b.sectors c.sectors e.sectors.0 f.sectors.0 e.sectors.1 f.sectors.1);

@@ -27,9 +27,10 @@ numbered r shape head at = record r {
   partial = [];
 }
 
--- a reading goes on from another: the lists of its parts begin with those of the other
+-- a reading goes on from another: its head and the lists of its parts begin with those of the other
 pub record Extends (old new : Reading) : Type 0 where
   pub shape : new.shape ≡ old.shape
+  pub head : (more : List ℕ) × (new.head ≡ old.head ++ more)
   pub pages : (more : List PageChange) × (new.pages ≡ old.pages ++ more)
   pub blocks : (more : List (List ℕ)) × (new.blocks ≡ old.blocks ++ more)
   pub sectors : (more : List SectorChange) × (new.sectors ≡ old.sectors ++ more)

@@ -10,6 +10,7 @@ use Rattle.checkpoint_stream.specs.Readings.{judged_at, fed_byte, fed, width_of}
 pub Extends-itself : (r : Reading) → Extends r r
 Extends-itself r = record {
   shape = refl;
+  head = ([], sym (append-nil r.head));
   pages = ([], sym (append-nil r.pages));
   blocks = ([], sym (append-nil r.blocks));
   sectors = ([], sym (append-nil r.sectors));
@@ -22,34 +23,43 @@ pushed old more new x e = ap (λ l. l ++ x ∷ []) e ∙ append_assoc old more (
 
 kept_number-extends : (b : Bool) (a r : Reading) (row : Row) (n : ℕ) → Extends a r → Extends a (kept_number b r row n)
 unfolding kept_number
-kept_number-extends false a r row n e = record { shape = e.shape; pages = e.pages; blocks = e.blocks; sectors = e.sectors; frames = e.frames }
-kept_number-extends true a r row n e = record { shape = e.shape; pages = e.pages; blocks = e.blocks; sectors = e.sectors; frames = e.frames }
+kept_number-extends false a r row n e = record { shape = e.shape; head = e.head; pages = e.pages; blocks = e.blocks; sectors = e.sectors; frames = e.frames }
+kept_number-extends true a r row n e =
+    record {
+      shape = e.shape;
+      head = (_, pushed a.head e.head.0 r.head n e.head.1);
+      pages = e.pages;
+      blocks = e.blocks;
+      sectors = e.sectors;
+      frames = e.frames;
+    }
 
 moved_if-extends : (b : Bool) (a r : Reading) (p : Place) → Extends a r → Extends a (moved_if b r p)
 unfolding moved_if
-moved_if-extends false a r p e = record { shape = e.shape; pages = e.pages; blocks = e.blocks; sectors = e.sectors; frames = e.frames }
-moved_if-extends true a r p e = record { shape = e.shape; pages = e.pages; blocks = e.blocks; sectors = e.sectors; frames = e.frames }
+moved_if-extends false a r p e = record { shape = e.shape; head = e.head; pages = e.pages; blocks = e.blocks; sectors = e.sectors; frames = e.frames }
+moved_if-extends true a r p e = record { shape = e.shape; head = e.head; pages = e.pages; blocks = e.blocks; sectors = e.sectors; frames = e.frames }
 
 kept_mask-extends : (b : Bool) (a r : Reading) (left page mask : ℕ) → Extends a r → Extends a (kept_mask b r left page mask)
 unfolding kept_mask
-kept_mask-extends true a r left page mask e = record { shape = e.shape; pages = e.pages; blocks = e.blocks; sectors = e.sectors; frames = e.frames }
+kept_mask-extends true a r left page mask e = record { shape = e.shape; head = e.head; pages = e.pages; blocks = e.blocks; sectors = e.sectors; frames = e.frames }
 kept_mask-extends false a r left page mask e =
-    record { shape = e.shape; pages = (_, pushed a.pages e.pages.0 r.pages _ e.pages.1); blocks = e.blocks; sectors = e.sectors; frames = e.frames }
+    record { shape = e.shape; head = e.head; pages = (_, pushed a.pages e.pages.0 r.pages _ e.pages.1); blocks = e.blocks; sectors = e.sectors; frames = e.frames }
 
 kept_block-extends : (b : Bool) (a r : Reading) (left page more : ℕ) (unit : List ℕ) → Extends a r →
     Extends a (kept_block b r left page more unit)
 unfolding kept_block
-kept_block-extends true a r left page more unit e = record { shape = e.shape; pages = e.pages; blocks = e.blocks; sectors = e.sectors; frames = e.frames }
+kept_block-extends true a r left page more unit e = record { shape = e.shape; head = e.head; pages = e.pages; blocks = e.blocks; sectors = e.sectors; frames = e.frames }
 kept_block-extends false a r left page more unit e =
-    record { shape = e.shape; pages = e.pages; blocks = (_, pushed a.blocks e.blocks.0 r.blocks unit e.blocks.1); sectors = e.sectors; frames = e.frames }
+    record { shape = e.shape; head = e.head; pages = e.pages; blocks = (_, pushed a.blocks e.blocks.0 r.blocks unit e.blocks.1); sectors = e.sectors; frames = e.frames }
 
 kept_sector-extends : (b : Bool) (a r : Reading) (left sector : ℕ) (unit : List ℕ) → Extends a r →
     Extends a (kept_sector b r left sector unit)
 unfolding kept_sector
-kept_sector-extends true a r left sector unit e = record { shape = e.shape; pages = e.pages; blocks = e.blocks; sectors = e.sectors; frames = e.frames }
+kept_sector-extends true a r left sector unit e = record { shape = e.shape; head = e.head; pages = e.pages; blocks = e.blocks; sectors = e.sectors; frames = e.frames }
 kept_sector-extends false a r left sector unit e =
     record {
       shape = e.shape;
+      head = e.head;
       pages = e.pages;
       blocks = e.blocks;
       sectors = (_, pushed a.sectors e.sectors.0 r.sectors _ e.sectors.1);
@@ -61,6 +71,7 @@ unfolding frame_judged
 frame_judged-extends a r left len unit e =
     record {
       shape = e.shape;
+      head = e.head;
       pages = e.pages;
       blocks = e.blocks;
       sectors = e.sectors;
@@ -95,7 +106,7 @@ fed_byte-extends a r b e =
       | false ↦ elim (length r.partial + 1 == width_of r) as (λ (whole : Bool). Extends a (if whole
           then judged r (r.partial ++ b ∷ []) else record r { partial = r.partial ++ b ∷ [] })) [
             | true ↦ judged-extends a r _ e
-            | false ↦ record { shape = e.shape; pages = e.pages; blocks = e.blocks; sectors = e.sectors; frames = e.frames }
+            | false ↦ record { shape = e.shape; head = e.head; pages = e.pages; blocks = e.blocks; sectors = e.sectors; frames = e.frames }
           ]
     ]
 
