@@ -6,7 +6,7 @@ use Rattle.checkpoint_stream.specs.declared.{rules.{Row.Row, Width.TheVariants.F
 use Rattle.checkpoint_stream.specs.{declared.place.Place.TheVariants.{Head, PageCount}, HeadTable.{head_table, row_at, passes, bytes_of}}
 use Rattle.checkpoint_stream.specs.{HeadTable.{bytes_in, number}, Readings.{judged, kept_number, after_number}, Sound.{AllPass, last_after}}
 use Rattle.checkpoint_stream.{specs.Text.number_units, proofs.Numbers.{limit_of, AllFit, number-back, length-bytes_of, some-bytes}}
-use Rattle.checkpoint_stream.proofs.Leading.{standing, Leads, Leads-append, Leads-unit}
+use Rattle.checkpoint_stream.proofs.Leading.{at, standing, Leads, Leads-append, Leads-unit}
 
 length-head_table : length head_table ≡ 80
 unfolding head_table
@@ -14,21 +14,21 @@ length-head_table = refl
 
 number-judged : (shape : Shape) (k : ℕ) (head : List ℕ) (before n m : ℕ) (place : Place) (o : ℕ) → m ≡ n →
     passes shape (row_at k).rule before n ≡ true → after_number (k + 1) ≡ place →
-    kept_number (passes shape (row_at k).rule before m) (standing shape Head k head before [] [] [] o) (row_at k) m
-    ≡ standing shape place (k + 1) (head ++ n ∷ []) n [] [] [] ((o + bytes_in (row_at k).width) % 2 ^ 64)
+    kept_number (passes shape (row_at k).rule before m) (at (standing shape Head k head before) o) (row_at k) m
+    ≡ at (standing shape place (k + 1) (head ++ n ∷ []) n) ((o + bytes_in (row_at k).width) % 2 ^ 64)
 unfolding kept_number
-number-judged shape k head before n m place o same p at = rw (same, p, at) refl
+number-judged shape k head before n m place o same p next = rw (same, p, next) refl
 
 number-step : (shape : Shape) (k : ℕ) (head : List ℕ) (before n : ℕ) (place : Place) → IsTrue (passes shape (row_at k).rule before n) →
     n < limit_of (row_at k).width → after_number (k + 1) ≡ place →
-    Leads (standing shape Head k head before [] [] []) (bytes_of (row_at k).width n ∷ [])
-    (standing shape place (k + 1) (head ++ n ∷ []) n [] [] [])
+    Leads (standing shape Head k head before) (bytes_of (row_at k).width n ∷ [])
+    (standing shape place (k + 1) (head ++ n ∷ []) n)
 unfolding judged
-number-step shape k head before n place p fits at =
-    Leads-unit _ _ _ (λ o. refl) (λ o. refl) (some-bytes (row_at k).width n) (λ o. length-bytes_of (row_at k).width n)
+number-step shape k head before n place p fits next =
+    Leads-unit _ _ _ refl (some-bytes (row_at k).width n) (length-bytes_of (row_at k).width n)
     (λ o. (
       (o + bytes_in (row_at k).width) % 2 ^ 64,
-      number-judged shape k head before n _ place o (number-back (row_at k).width n fits) p at,
+      number-judged shape k head before n _ place o (number-back (row_at k).width n fits) p next,
     ))
 
 -- a row of the table, from those that are left
@@ -60,28 +60,28 @@ number_units-last row n = refl
 
 pub numbers-lead : (shape : Shape) (rows : List Row) (ns : List ℕ) (k : ℕ) (head : List ℕ) (before : ℕ) → 0 < length rows →
     drop k head_table ≡ rows → AllPass shape before rows ns → AllFit rows ns →
-    Leads (standing shape Head k head before [] [] []) (number_units rows ns)
-    (standing shape PageCount 80 (head ++ ns) (last_after before ns) [] [] [])
+    Leads (standing shape Head k head before) (number_units rows ns)
+    (standing shape PageCount 80 (head ++ ns) (last_after before ns))
 numbers-lead shape [] ns k head before some at p fit = absurd (omega (arith, some))
 numbers-lead shape (row ∷ rows) [] k head before some at p fit = absurd fit
 numbers-lead shape (row ∷ []) (n ∷ []) k head before some at p fit =
     let l : Left k row [] = left k row [] at in
     let known : k + 1 ≡ 80 = omega (arith, l.count) in
-    let step : Leads (standing shape Head k head before [] [] []) (bytes_of (row_at k).width n ∷ [])
-    (standing shape PageCount (k + 1) (head ++ n ∷ []) n [] [] [])
+    let step : Leads (standing shape Head k head before) (bytes_of (row_at k).width n ∷ [])
+    (standing shape PageCount (k + 1) (head ++ n ∷ []) n)
     = number-step shape k head before n PageCount (rw l.here p.0) (rw l.here fit.0) (rw known refl) in
     rw (number_units-last row n, ← l.here, ← known) step
 numbers-lead shape (row ∷ []) (n ∷ m ∷ ns) k head before some at p fit = absurd fit.1
 numbers-lead shape (row ∷ next ∷ rows) (n ∷ ns) k head before some at p fit =
     let l : Left k row (next ∷ rows) = left k row (next ∷ rows) at in
-    let step : Leads (standing shape Head k head before [] [] []) (bytes_of (row_at k).width n ∷ [])
-    (standing shape Head (k + 1) (head ++ n ∷ []) n [] [] [])
+    let step : Leads (standing shape Head k head before) (bytes_of (row_at k).width n ∷ [])
+    (standing shape Head (k + 1) (head ++ n ∷ []) n)
     = number-step shape k head before n Head (rw l.here p.0) (rw l.here fit.0) (going-on (k + 1) (omega (arith, l.count))) in
-    let rest : Leads (standing shape Head (k + 1) (head ++ n ∷ []) n [] [] []) (number_units (next ∷ rows) ns)
-    (standing shape PageCount 80 ((head ++ n ∷ []) ++ ns) (last_after n ns) [] [] [])
+    let rest : Leads (standing shape Head (k + 1) (head ++ n ∷ []) n) (number_units (next ∷ rows) ns)
+    (standing shape PageCount 80 ((head ++ n ∷ []) ++ ns) (last_after n ns))
     = numbers-lead shape (next ∷ rows) ns (k + 1) (head ++ n ∷ []) n (omega arith) l.rest p.1 fit.1 in
-    let both : Leads (standing shape Head k head before [] [] []) ((bytes_of (row_at k).width n ∷ []) ++ number_units (next ∷ rows) ns)
-    (standing shape PageCount 80 ((head ++ n ∷ []) ++ ns) (last_after n ns) [] [] [])
+    let both : Leads (standing shape Head k head before) ((bytes_of (row_at k).width n ∷ []) ++ number_units (next ∷ rows) ns)
+    (standing shape PageCount 80 ((head ++ n ∷ []) ++ ns) (last_after n ns))
     = Leads-append _ _ _ _ _ step rest in
     let grouped : (head ++ n ∷ []) ++ ns ≡ head ++ n ∷ ns = append_assoc head (n ∷ []) ns in
     rw (number_units-cons row (next ∷ rows) n ns, ← l.here, ← grouped) both

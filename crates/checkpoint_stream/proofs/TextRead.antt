@@ -1,20 +1,23 @@
 -- A checkpoint's text is read as this checkpoint.
-use Rattle.std.proofs.Common.{◌≡◌, ℕ, ◌<◌, ◌≤◌, ◌^◌, List, [], ◌∷◌, length, refl, sym, ◌∙◌, ap, subst, arith, lit<, All, drop, Bool, true}
+use Rattle.std.proofs.Common.{◌≡◌, ℕ, ◌<◌, ◌≤◌, List, [], ◌∷◌, length, refl, sym, ◌∙◌, ap, subst, arith, lit<, All, drop, Bool, true, ◌++◌, nat_le}
 use Rattle.std.proofs.{Common.{false, ◌==◌, if◌then◌else◌}, lemmas.List.{length-map, Elements.{All-take, All-drop}}}
 use Rattle.std.proofs.lemmas.Bool.Decides.{nat_tests}
 use Rattle.guest_machine.specs.declared.machine_state.MachineState.{MachineState}
 use Rattle.epoch_snapshot.specs.{declared.changes.{PageChange.PageChange, SectorChange.SectorChange}, Checkpoints.{Change, IsCanonical}}
 use Rattle.epoch_snapshot.specs.Checkpoints.{change_of}
+use Rattle.arrayvec.specs.ArrayVec.{ArrayVec}
 use Rattle.checkpoint_stream.specs.declared.{rules.Width.TheVariants.Four, place.Place.TheVariants.{Head, PageCount, SectorCount, Whole}}
+use Rattle.checkpoint_stream.specs.declared.place.Place.TheVariants.{FrameCount}
+use Rattle.checkpoint_stream.specs.Readings.{after_sectors, is_full}
 use Rattle.checkpoint_stream.specs.{HeadTable.{head_table, bytes_of}, Readings.{Reading, begun, judged, pages_due, sectors_due}}
 use Rattle.checkpoint_stream.specs.{Sound.{change_in, last_after, version_from}, Taken.Takes, Text.{magic, head_numbers, numbers_from}}
-use Rattle.checkpoint_stream.specs.{Text.{number_units, page_units, sector_units, units_of_frames, units, joined, text}, Units.judged_all}
+use Rattle.checkpoint_stream.specs.{Text.{frame_units, units, joined, text}, Units.judged_all}
 use Rattle.checkpoint_stream.specs.{Units.AreUnits, Widths.{HasWidths, StateFits}, ReadBack.ReadsBack}
-use Rattle.checkpoint_stream.proofs.{Feeding.{Takes-nothing, Takes-append, Takes-unit}, Leading.{standing, framed, Leads, Leads-append}}
+use Rattle.checkpoint_stream.proofs.{Feeding.{Takes-nothing, Takes-append, Takes-unit}, Leading.{at, standing, Leads, Leads-append, Leads-none}}
+use Rattle.checkpoint_stream.proofs.Leading.{Leads-number}
 use Rattle.checkpoint_stream.proofs.{HeadRead.numbers-lead, HeadFits.{IsWord, head-passes, head-fits}, StateRead.{state-back, numbers-back}}
-use Rattle.checkpoint_stream.proofs.RecordsRead.{end_of, FitsMask, IsBlockWide, IsSectorWide, Rises-end, PagesLeft, page_count-step}
-use Rattle.checkpoint_stream.proofs.{RecordsRead.{sector_count-step, pages-lead}, SectorsRead.{SectorsLeft, sectors-lead}}
-use Rattle.checkpoint_stream.proofs.FramesRead.{ending-lead}
+use Rattle.checkpoint_stream.proofs.RecordsRead.{FitsMask, IsBlockWide, IsSectorWide, Rises-end, PagesLeft, pages-lead}
+use Rattle.checkpoint_stream.proofs.{SectorsRead.{SectorsLeft, sectors-lead}, FramesRead.counted-lead}
 
 -- units are taken whole, and read as these units
 pub units-taken : (r : Reading) (us : List (List ℕ)) → AreUnits r us → Takes r (joined us) (judged_all r us)
@@ -28,9 +31,12 @@ some-rows : 0 < length head_table
 unfolding head_table
 some-rows = lit< tt
 
--- the reading that a whole checkpoint is
+-- the reading that its head is, and the one that a whole checkpoint is
+abbrev headed : Change → Reading
+headed c = standing c.shape PageCount 80 (head_numbers c) (last_after 0 (head_numbers c))
+
 abbrev pub whole : Change → ℕ → Reading
-whole c = framed c.shape Whole 80 (head_numbers c) (last_after 0 (head_numbers c)) c.pages c.blocks c.sectors c.frames
+whole c = at (record (headed c) { place = Whole; pages = c.pages; blocks = c.blocks; sectors = c.sectors; frames = c.frames })
 
 page-count : (c : Change) → IsCanonical c → length c.pages ≤ c.shape.pages
 page-count c h = omega (arith, Rises-end 0 c.shape.pages _ h.pages, length-map c.pages (λ (p : PageChange). p.page))
@@ -41,7 +47,6 @@ sector-count c h = omega (arith, Rises-end 0 c.shape.sectors _ h.sectors, length
 pages-left : (c : Change) → IsCanonical c → HasWidths c → PagesLeft c.shape 0 c.pages c.blocks
 pages-left c h w = record {
   rises = h.pages;
-  small = omega (arith, c.shape.most_pages);
   some = h.masks;
   masks = w.masks;
   count = h.block_count;
@@ -49,37 +54,55 @@ pages-left c h w = record {
   wide = w.blocks;
 }
 
-sectors-left : (c : Change) → IsCanonical c → HasWidths c → SectorsLeft c.shape (head_numbers c) 0 c.sectors
-unfolding head_numbers
-sectors-left c h w = record { rises = h.sectors; small = omega (arith, c.shape.most_sectors); full = h.full_sectors; wide = w.sectors }
+-- a full one
+is-zero : (n : ℕ) → (n == 0) ≡ true → n ≡ 0
+is-zero n e = grind (arith, nat_tests)
 
-units-lead : (c : Change) → IsCanonical c → HasWidths c → Leads (standing c.shape Head 0 [] 0 [] [] []) (units c) (whole c)
-unfolding units
+full-number : (c : Change) → is_full (headed c) ≡ true → c.number ≡ 0
+unfolding head_numbers
+full-number c e = is-zero c.number e
+
+sectors-left : (c : Change) → IsCanonical c → HasWidths c → SectorsLeft c.shape (is_full (headed c)) 0 c.sectors
+sectors-left c h w = record { rises = h.sectors; some = λ e. h.full_sectors (full-number c e); wide = w.sectors }
+
+-- what follows the sector records, in either version
+ending-lead : (c : Change) (r : Reading) (old : Bool) → IsCanonical c → (c.version == 1) ≡ old →
+    after_sectors r ≡ (if old then Whole else FrameCount) → (is_full r ≡ true → c.frames ≡ []) → r.frames ≡ [] →
+    Leads (record r { place = after_sectors r }) (if old then [] else bytes_of Four (length c.frames) ∷ frame_units c.frames)
+    (record r { place = Whole; frames = c.frames })
+ending-lead c r true h is ends full none = rw (ends, h.old_frames (is-one c.version is), ← none) (Leads-none _)
+  where
+    is-one : (n : ℕ) → (n == 1) ≡ true → n ≡ 1
+    is-one n e = grind (arith, nat_tests)
+ending-lead c r false h is ends full none =
+    rw ends (subst (λ (fs : List (ArrayVec ℕ)). Leads (record r { place = FrameCount }) (bytes_of Four (length c.frames) ∷ frame_units c.frames)
+    (record r { place = Whole; frames = fs ++ c.frames })) none (counted-lead r c.frames h.frame_count full h.frames))
+
+ends-at : (c : Change) (old : Bool) → (c.version == 1) ≡ old → after_sectors (headed c) ≡ (if old then Whole else FrameCount)
+unfolding head_numbers
+ends-at c true is = rw is refl
+ends-at c false is = rw is refl
+
+units-lead : (c : Change) → IsCanonical c → HasWidths c →
+    Leads (standing c.shape Head 0 [] 0) (units c) (whole c 0)
+unfolding units judged
 units-lead c h w =
-    let head : List ℕ = head_numbers c in
-    let before : ℕ = last_after 0 head in
-    let pages_small : length c.pages < 2 ^ 32 = omega (arith, page-count c h, c.shape.most_pages) in
-    let sectors_small : length c.sectors < 2 ^ 32 = omega (arith, sector-count c h, c.shape.most_sectors) in
-    let heads : Leads (standing c.shape Head 0 [] 0 [] [] []) (number_units head_table head)
-    (standing c.shape PageCount 80 head before [] [] [])
-    = numbers-lead c.shape head_table head 0 [] 0 some-rows refl (head-passes c h) (head-fits c h w) in
-    let page_counted : Leads (standing c.shape PageCount 80 head before [] [] []) (bytes_of Four (length c.pages) ∷ [])
-    (standing c.shape (pages_due (length c.pages) 0) 80 head before [] [] [])
-    = page_count-step c.shape head before (length c.pages) (page-count c h) pages_small in
-    let pages : Leads (standing c.shape (pages_due (length c.pages) 0) 80 head before [] [] []) (page_units c.pages c.blocks)
-    (standing c.shape SectorCount 80 head before c.pages c.blocks [])
-    = pages-lead c.shape head before 0 [] c.pages [] c.blocks (pages-left c h w) in
-    let sector_counted : Leads (standing c.shape SectorCount 80 head before c.pages c.blocks [])
-    (bytes_of Four (length c.sectors) ∷ []) (standing c.shape (sectors_due (end_of head) (length c.sectors) 0) 80 head before c.pages c.blocks [])
-    = sector_count-step c.shape head before (length c.sectors) c.pages c.blocks (sector-count c h) sectors_small in
-    let sectors : Leads (standing c.shape (sectors_due (end_of head) (length c.sectors) 0) 80 head before c.pages c.blocks [])
-    (sector_units c.sectors) (standing c.shape (end_of head) 80 head before c.pages c.blocks c.sectors)
-    = sectors-lead c.shape head before 0 c.pages c.blocks [] c.sectors (sectors-left c h w) in
-    let ending : Leads (standing c.shape (end_of head) 80 head before c.pages c.blocks c.sectors)
-    (units_of_frames c.version c.frames) (whole c)
-    = ending-lead c before (c.version == 1) h refl in
-    Leads-append _ _ _ _ _ heads (Leads-append _ _ _ _ _ (Leads-append _ _ _ _ _ page_counted pages)
-    (Leads-append _ _ _ _ _ (Leads-append _ _ _ _ _ sector_counted sectors) ending))
+    let r : Reading = headed c in
+    let paged : Reading = record r { pages = c.pages; blocks = c.blocks } in
+    let stored : Reading = record paged { sectors = c.sectors } in
+    Leads-append _ _ _ _ _
+    (numbers-lead c.shape head_table (head_numbers c) 0 [] 0 some-rows refl (head-passes c h) (head-fits c h w))
+    (Leads-append _ _ _ _ _ (Leads-append _ _ _ _ _ (Leads-number r (length c.pages) (λ m. nat_le m c.shape.pages) (λ m. pages_due m 0)
+    refl refl (λ o. refl) (omega (arith, page-count c h, c.shape.most_pages)) (le-test (length c.pages) c.shape.pages (page-count c h)))
+    (pages-lead r 0 c.pages c.blocks (pages-left c h w)))
+    (Leads-append _ _ _ _ _ (Leads-append _ _ _ _ _ (Leads-number (record paged { place = SectorCount }) (length c.sectors)
+    (λ m. nat_le m c.shape.sectors) (λ m. sectors_due (after_sectors r) m 0) refl refl (λ o. refl)
+    (omega (arith, sector-count c h, c.shape.most_sectors)) (le-test (length c.sectors) c.shape.sectors (sector-count c h)))
+    (sectors-lead paged 0 c.sectors (sectors-left c h w)))
+    (ending-lead c stored (c.version == 1) h refl (ends-at c (c.version == 1) refl) (λ e. h.full_frames (full-number c e)) refl)))
+  where
+    le-test : (m n : ℕ) → m ≤ n → nat_le m n ≡ true
+    le-test m n h = grind (arith, nat_tests)
 
 version-back : (version : ℕ) → 1 ≤ version → version ≤ 2 → version_from (magic version) ≡ version
 version-back version least last =
@@ -105,7 +128,7 @@ pub text-taken : (c : Change) (o : ℕ) → IsCanonical c → HasWidths c →
     (p : ℕ) × (Takes (begun c.shape o) (text c) (whole c p))
 unfolding text
 text-taken c o h w =
-    let l : Leads (standing c.shape Head 0 [] 0 [] [] []) (units c) (whole c) = units-lead c h w in (
+    let l : Leads (standing c.shape Head 0 [] 0) (units c) (whole c 0) = units-lead c h w in (
       (l.lead o).0,
       subst (λ (r : Reading). Takes (begun c.shape o) (joined (units c)) r) (l.lead o).1
           (units-taken (begun c.shape o) (units c) (l.are o)),
