@@ -4,7 +4,7 @@ use Rattle.std.proofs.{Common.get_or, lemmas.Bool.Decides.nat_tests}
 use Rattle.virtio_mmio.specs.States.{queue_at}
 use Rattle.epoch_snapshot.specs.{Checkpoints.{Change, IsCanonical}, Limits.most_old_pages}
 use Rattle.checkpoint_stream.specs.{HeadTable.{head_table, passes}, Sound.AllPass, Text.{magic, head_numbers}, Widths.HasWidths}
-use Rattle.checkpoint_stream.proofs.Numbers.{AllFit}
+use Rattle.checkpoint_stream.proofs.Numbers.{AllFit, eq-true}
 
 infixr 5 ◌⨾◌
 -- one fact, and those that come after it
@@ -38,15 +38,12 @@ old-pages n h = grind (arith, nat_tests)
 all-pages : (n : ℕ) → IsTrue (n == n && true)
 all-pages n = grind (arith, nat_tests)
 
-is-one : (n : ℕ) → (n == 1) ≡ true → n ≡ 1
-is-one n e = grind (arith, nat_tests)
-
 pages-test : (version pages : ℕ) → (version ≡ 1 → pages ≤ most_old_pages) →
     IsTrue (pages == pages && (magic version == 0x32434d52 || nat_le pages most_old_pages))
 pages-test version pages few =
     elim (version == 1) as (λ (old : Bool). (version == 1) ≡ old →
     IsTrue (pages == pages && ((if old then 0x31434d52 else 0x32434d52) == 0x32434d52 || nat_le pages most_old_pages))) [
-      | true ↦ λ (e : (version == 1) ≡ true). old-pages pages (few (is-one version e))
+      | true ↦ λ (e : (version == 1) ≡ true). old-pages pages (few (eq-true version 1 e))
       | false ↦ λ (e : (version == 1) ≡ false). all-pages pages
     ] refl
 

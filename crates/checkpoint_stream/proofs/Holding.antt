@@ -9,8 +9,8 @@ use Rattle.checkpoint_stream.specs.declared.place.Place.TheVariants.{Head, PageC
 use Rattle.checkpoint_stream.specs.declared.place.Place.TheVariants.{SectorBytes, FrameCount, FrameLength, FrameBytes, Whole, Failed}
 use Rattle.checkpoint_stream.specs.{Readings.{Reading, moved_if, kept_number, kept_mask, kept_block, kept_sector, frame_judged, judged_at}}
 use Rattle.checkpoint_stream.specs.{Readings.width_at, Sound.{HoldsFew, HasRecords, HasFrames, StandsAt, FramesAt}, Taken.HasPlaces}
-use Rattle.checkpoint_stream.specs.{HeadTable.{bytes_in, row_at}, declared.rules.Width.{Width, TheVariants.{Two, Four, Eight}}}
-use Rattle.checkpoint_stream.proofs.RecordsRead.{Rises-end, FitsMask}
+use Rattle.checkpoint_stream.specs.{HeadTable.{row_at}}
+use Rattle.checkpoint_stream.proofs.{RecordsRead.{Rises-end, FitsMask}, Numbers.width-most}
 use Rattle.net_device.specs.Frames.{IsFrame}
 
 -- what changes no record and no frame
@@ -118,12 +118,6 @@ blocks-few (p ∷ ps) all =
       blocks-few ps (All-tail FitsMask p ps all),
     )
 
--- a number takes at most eight bytes
-pub narrow : (w : Width) → bytes_in w ≤ 8
-narrow Two = omega arith
-narrow Four = omega arith
-narrow Eight = omega arith
-
 -- the unit that has begun is shorter than the longest frame
 pub begun-short : (p : Place) (known filled : ℕ) (buffer part : List ℕ) (frames places : ℕ) → filled < width_at p known →
     HasPlaces p filled part frames places → length (take filled buffer ++ part) < 1514
@@ -133,7 +127,7 @@ begun-short Head known filled buffer part frames places h k =
     omega (
       arith,
       h,
-      narrow (row_at known).width,
+      width-most (row_at known).width,
       ap (λ (l : List ℕ). length l) k,
       length-append (take filled buffer) part,
       length-take filled buffer,

@@ -1,9 +1,16 @@
 -- A number and its bytes give each other.
-use Rattle.std.proofs.Common.{◌≡◌, ℕ, ◌<◌, ◌^◌, List, [], ◌∷◌, length, refl, arith, suc, zero, All, get_or, lit<}
-use Rattle.std.proofs.lemmas.{List.Elements.{All-head, All-tail}, Nat.{from_le_bytes-to_le_bytes_2, from_le_bytes-to_le_bytes_4}}
+use Rattle.std.proofs.Common.{◌≡◌, ℕ, ◌<◌, ◌≤◌, ◌^◌, ◌==◌, true, List, [], ◌∷◌, length, refl, arith, suc, zero, All, get_or, lit<}
+use Rattle.std.proofs.lemmas.{Bool.Decides.nat_tests, List.Elements.{All-head, All-tail}, Nat.{from_le_bytes-to_le_bytes_2, from_le_bytes-to_le_bytes_4}}
 use Rattle.std.proofs.lemmas.Nat.{from_le_bytes-to_le_bytes_8, le_bytes_2, le_bytes_4, le_bytes_8}
-use Rattle.checkpoint_stream.specs.{declared.rules.{Width.{Width, TheVariants.{Two, Four, Eight}}, Row.Row}, HeadTable.{bytes_in, bytes_of}}
+use Rattle.checkpoint_stream.specs.{declared.rules.{Width.{Width, TheVariants.{Two, Four, Eight}}, Row.Row}, HeadTable.{head_table, bytes_in, bytes_of}}
 use Rattle.checkpoint_stream.specs.HeadTable.{number_spelled}
+
+pub length-head_table : length head_table ≡ 80
+unfolding head_table
+length-head_table = refl
+
+pub eq-true : (m n : ℕ) → (m == n) ≡ true → m ≡ n
+eq-true m n e = grind (arith, nat_tests)
 
 -- the least number that a width can't hold
 abbrev pub limit_of : Width → ℕ
@@ -22,6 +29,11 @@ unfolding bytes_of
 length-bytes_of Two n = refl
 length-bytes_of Four n = refl
 length-bytes_of Eight n = refl
+
+pub width-most : (w : Width) → bytes_in w ≤ 8
+width-most Two = omega arith
+width-most Four = omega arith
+width-most Eight = omega arith
 
 pub some-bytes : (w : Width) (n : ℕ) → 0 < length (bytes_of w n)
 some-bytes Two n = omega (arith, length-bytes_of Two n)

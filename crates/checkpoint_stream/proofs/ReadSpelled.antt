@@ -1,7 +1,7 @@
 -- What is read whole is the text of what it gives.
 use Rattle.std.proofs.Common.{◌≡◌, ℕ, ◌+◌, ◌<◌, ◌==◌, List, [], ◌∷◌, ◌++◌, length, take, Bool, true, false, All, refl, sym, ◌∙◌, ap}
-use Rattle.std.proofs.Common.{subst, arith, append_assoc, if◌then◌else◌, length-append}
-use Rattle.std.proofs.{Math.Seq.drop-length, lemmas.{Bool.Decides.nat_tests, List.Elements.{All-head, All-tail, All-push, All-nil}}}
+use Rattle.std.proofs.Common.{subst, append_assoc, if◌then◌else◌, length-append}
+use Rattle.std.proofs.{Math.Seq.drop-length, lemmas.{List.Elements.{All-head, All-tail, All-push, All-nil}}}
 use Rattle.guest_machine.specs.declared.shapes.Shape.{Shape}
 use Rattle.checkpoint_stream.specs.declared.place.Place.{Place, TheVariants.Whole}
 use Rattle.checkpoint_stream.specs.{HeadTable.head_table, Readings.{Reading, begun, is_closed, width_of, judged, fed_byte, fed, taken}}
@@ -9,7 +9,7 @@ use Rattle.checkpoint_stream.specs.Sound.{IsSound, HasRecords, StandsAt, change_
 use Rattle.checkpoint_stream.specs.Text.{head_numbers, joined, number_units, page_units, sector_units, units_of_frames, units, text}
 use Rattle.checkpoint_stream.specs.{HeadTable.bytes_of, Taken.Extends, laws.{Feeding.{fed-closed, taken-byte, taken-closed}, Extending.{Extends-itself, fed-extends}}}
 use Rattle.checkpoint_stream.specs.declared.rules.Width.TheVariants.{Four}
-use Rattle.checkpoint_stream.proofs.{Begun.judged-begun, Numbers.IsByte, Soundness.{fed_byte-sound, fed-sound, begun-sound}, HeadBack.head-kept}
+use Rattle.checkpoint_stream.proofs.{Begun.judged-begun, Numbers.{IsByte, eq-true}, Soundness.{fed_byte-sound, fed-sound, begun-sound}, HeadBack.head-kept}
 use Rattle.checkpoint_stream.proofs.ToCome.{to_come, LeftAt, IsFirst, Left, left_of, ending, after_head, judged_at-first}
 
 -- bytes of the unit that has begun, and none where nothing more is taken
@@ -52,7 +52,7 @@ byte-rest r f b rest sound started small going from extends h =
           let unit : List ℕ = r.partial ++ b ∷ [] in
           let first : IsFirst r.place r (judged r unit) f unit
           = judged_at-first r.place r f unit going sound.head sound.place (All-push IsByte r.partial b started.bytes small)
-          (length-append r.partial (b ∷ []) ∙ equal _ _ full) from.head extends h.left in
+          (length-append r.partial (b ∷ []) ∙ eq-true _ _ full) from.head extends h.left in
           record {
             left = first.left;
             spells = sym (append_assoc r.partial (b ∷ []) rest) ∙ ap (λ (l : List ℕ). unit ++ l)
@@ -63,9 +63,6 @@ byte-rest r f b rest sound started small going from extends h =
         spells = sym (append_assoc r.partial (b ∷ []) rest) ∙ h.spells;
       }
     ] refl (rw going at extends) (rw going at h)
-  where
-    equal : (m n : ℕ) → (m == n) ≡ true → m ≡ n
-    equal m n e = grind (arith, nat_tests)
 
 fed-rest : (r : Reading) (bytes : List ℕ) → IsSound r → HasBegun r → All IsByte bytes → (fed r bytes).place ≡ Whole →
     IsRest r (fed r bytes) (take (taken r bytes) bytes)

@@ -1,13 +1,13 @@
 -- Units of one kind, one after another.
 use Rattle.std.proofs.Common.{◌≡◌, ℕ, ◌+◌, ◌%◌, ◌^◌, ◌<◌, ◌≤◌, List, [], ◌++◌, Bool, true, length, take, drop, set, ap, sym, ◌∙◌, subst}
-use Rattle.std.proofs.Common.{refl, append_assoc, arith, length-drop, lit<, lit≤}
+use Rattle.std.proofs.Common.{refl, append_assoc, arith, length-drop, lit<}
 use Rattle.std.proofs.{Math.Seq.{take-add}, lemmas.List.{length-take-le, take_more_set}}
 use Rattle.guest_machine.specs.declared.shapes.Shape.{Shape}
 use Rattle.checkpoint_stream.specs.declared.{place.Place.{Place, TheVariants.{Head, Block}}, rules.Width.{Width, TheVariants.{Two, Four}}}
 use Rattle.checkpoint_stream.specs.declared.{rules.{Row.Row, Width.TheVariants.Eight}, runs.Between.{Between}}
 use Rattle.checkpoint_stream.specs.{HeadTable.{row_at, passes, number_spelled, bytes_in}, Readings.{Reading, is_closed, width_at}}
 use Rattle.checkpoint_stream.specs.Readings.{judged, judged_at, after_number, kept_number, number_judged, block_judged}
-use Rattle.checkpoint_stream.{specs.Taken.{Takes, Extends, numbered}, proofs.{Feeding.{Takes-append, Takes-unit}, HeadRead.going-on}}
+use Rattle.checkpoint_stream.{specs.Taken.{Takes, Extends, numbered}, proofs.{Feeding.{Takes-append, Takes-unit}, HeadRead.going-on, Numbers.width-most}}
 
 pub judged-number : (r : Reading) (unit : List ℕ) → r.place ≡ Head →
     judged r unit ≡ number_judged r (row_at r.known) (number_spelled (row_at r.known).width unit)
@@ -18,11 +18,6 @@ pub width-least : (w : Width) → 0 < bytes_in w
 width-least Two = lit< tt
 width-least Four = lit< tt
 width-least Eight = lit< tt
-
-pub width-most : (w : Width) → bytes_in w ≤ 8
-width-most Two = lit≤ tt
-width-most Four = lit≤ tt
-width-most Eight = lit≤ tt
 
 pub judged-block : (r : Reading) (unit : List ℕ) (left page more : ℕ) → r.place ≡ Block left page more →
     judged r unit ≡ block_judged r left page more unit

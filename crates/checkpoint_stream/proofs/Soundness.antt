@@ -14,7 +14,7 @@ use Rattle.checkpoint_stream.specs.Readings.{pages_due, sectors_due, after_block
 use Rattle.checkpoint_stream.specs.Readings.{frames_due, frame_judged, width_at, kept_number, kept_mask, kept_block, kept_sector, judged}
 use Rattle.checkpoint_stream.specs.{Readings.{judged_at, is_closed, fed_byte, fed, begun, width_of}, Sound.{IsSound, IsHead, HasNoRecords}}
 use Rattle.checkpoint_stream.specs.Sound.{HasRecords, StandsAt, HasFrames, FramesAt, AllPass, last_after}
-use Rattle.checkpoint_stream.proofs.Holding.{keep-few, judged_at-few}
+use Rattle.checkpoint_stream.proofs.{Holding.{keep-few, judged_at-few}, Numbers.{eq-true, length-head_table}}
 use Rattle.net_device.specs.Frames.{IsFrame}
 use Rattle.arrayvec.specs.ArrayVec.{ArrayVec}
 
@@ -59,13 +59,18 @@ keep-records : (r : Reading) (offset : ℕ) (place : Place) (frames : List (Arra
     HasRecords (record r { offset = offset; place = place; frames = frames; partial = partial }) end due sector_end
 keep-records r offset place frames partial end due sector_end h = search rules
 
--- the head and the records of what was read
+-- what stands at a place
+record IsAt (p : Place) (r : Reading) : Type 0 where
+  stands : StandsAt p r
+  frames : FramesAt p r
+
+-- the head, the records and the frames of what was read
 record IsRead (r : Reading) : Type 0 where
   head : IsHead r
-  place : StandsAt r.place r
+  at : IsAt r.place r
 
 failed-read : (r : Reading) → IsHead r → IsRead (failed r)
-failed-read r h = record { head = keep-head r _ _ _ _ _ _ _ h; place = tt }
+failed-read r h = record { head = keep-head r _ _ _ _ _ _ _ h; at = record { stands = tt; frames = tt } }
 
 both-true : (a b : Bool) → (a && b) ≡ true → (a ≡ true) × (b ≡ true)
 both-true true b e = (refl, e)
@@ -77,23 +82,19 @@ le-true m n e = grind (arith, nat_tests)
 lt-true : (m n : ℕ) → nat_lt m n ≡ true → m < n
 lt-true m n e = grind (arith, nat_tests)
 
-eq-true : (m n : ℕ) → (m == n) ≡ true → m ≡ n
-eq-true m n e = grind (arith, nat_tests)
-
 eq-false : (m n : ℕ) → (m == n) ≡ false → m ≢ n
 eq-false m n e = grind (arith, nat_tests)
 
 -- a number of the head
-stands-after_number : (r : Reading) (k : ℕ) → r.known ≡ k → k ≤ 80 → HasNoRecords r → StandsAt (after_number k) r
-stands-after_number r k e within none =
-    elim (k == 80) as (λ (b : Bool). (k == 80) ≡ b → StandsAt (if b then PageCount else Head) r) [
-      | true ↦ λ (is : (k == 80) ≡ true). (e ∙ eq-true k 80 is, none)
-      | false ↦ λ (is : (k == 80) ≡ false). (omega (arith, e, within, eq-false k 80 is), none)
+at-after_number : (r : Reading) (k : ℕ) → r.known ≡ k → k ≤ 80 → HasNoRecords r → r.frames ≡ [] → IsAt (after_number k) r
+at-after_number r k e within none no_frames =
+    elim (k == 80) as (λ (b : Bool). (k == 80) ≡ b → IsAt (if b then PageCount else Head) r) [
+      | true ↦ λ (is : (k == 80) ≡ true). record { stands = (e ∙ eq-true k 80 is, none); frames = no_frames }
+      | false ↦ λ (is : (k == 80) ≡ false). record {
+        stands = (omega (arith, e, within, eq-false k 80 is), none);
+        frames = no_frames;
+      }
     ] refl
-
-length-head_table : length head_table ≡ 80
-unfolding head_table
-length-head_table = refl
 
 number-kept : (r : Reading) (n offset : ℕ) (place : Place) → IsHead r → r.known < 80 →
     passes r.shape (row_at r.known).rule r.before n ≡ true →
@@ -107,22 +108,20 @@ number-kept r n offset place h k p = record {
   last = sym (last_after-push 0 r.head n);
 }
 
-number-read : (b : Bool) (r : Reading) (n : ℕ) → IsHead r → HasNoRecords r → r.known < 80 →
-    passes r.shape (row_at r.known).rule r.before n ≡ b →
-    IsRead (kept_number b r (row_at r.known) n)
+number-read : (b : Bool) (r : Reading) (n : ℕ) → IsHead r → HasNoRecords r → r.frames ≡ [] → r.known < 80 →
+    passes r.shape (row_at r.known).rule r.before n ≡ b → IsRead (kept_number b r (row_at r.known) n)
 unfolding kept_number
-number-read false r n h none k p = failed-read r h
-number-read true r n h none k p = record {
+number-read false r n h none no_frames k p = failed-read r h
+number-read true r n h none no_frames k p = record {
   head = number-kept r n _ _ h k p;
-  place = stands-after_number _ (r.known + 1) refl (omega arith)
-      (record { pages = none.pages; blocks = none.blocks; sectors = none.sectors });
+  at = at-after_number _ (r.known + 1) refl (omega arith)
+      (record { pages = none.pages; blocks = none.blocks; sectors = none.sectors }) no_frames;
 }
 
-moved_if-read : (b : Bool) (r : Reading) (place : Place) → IsHead r → (b ≡ true → StandsAt place (moved r 4 place)) →
-    IsRead (moved_if b r place)
+moved_if-read : (b : Bool) (r : Reading) (place : Place) → IsHead r → (b ≡ true → IsAt place (moved r 4 place)) → IsRead (moved_if b r place)
 unfolding moved_if
 moved_if-read false r place h f = failed-read r h
-moved_if-read true r place h f = record { head = keep-head r _ _ _ _ _ _ _ h; place = f refl }
+moved_if-read true r place h f = record { head = keep-head r _ _ _ _ _ _ _ h; at = f refl }
 
 All-nothing : {X : Type 0} (P : X → Type 0) (xs : List X) → xs ≡ [] → All P xs
 All-nothing P xs e = λ k d h. absurd (omega (arith, h, ap length e))
@@ -153,24 +152,33 @@ higher-sectors r page_end due end higher le top h =
     let sectors : Rises 0 higher (map (λ (s : SectorChange). s.sector) r.sectors) = Rises-higher 0 end higher _ le h.sectors in
     search rules
 
-stands-pages_due : (r : Reading) (left from : ℕ) → HasRecords r from 0 0 → StandsAt (pages_due left from) r
-stands-pages_due r zero from h = higher-pages r from r.shape.pages 0 0 h.page_end (omega arith) h
-stands-pages_due r (suc left) from h = h
+at-pages_due : (r : Reading) (left from : ℕ) → HasRecords r from 0 0 → r.frames ≡ [] → IsAt (pages_due left from) r
+at-pages_due r zero from h none = record { stands = higher-pages r from r.shape.pages 0 0 h.page_end (omega arith) h; frames = none }
+at-pages_due r (suc left) from h none = record { stands = h; frames = none }
 
-stands-end : (r : Reading) (carries : Bool) → HasRecords r r.shape.pages 0 r.shape.sectors →
-    StandsAt (if carries then FrameCount else Whole) r
-stands-end r true h = h
-stands-end r false h = h
+-- the frames of none
+no-frames : (r : Reading) → r.frames ≡ [] → HasFrames r 0
+no-frames r none = record {
+  each = All-nothing IsFrame r.frames none;
+  count = omega (arith, ap length none);
+  full = λ _. omega (arith, ap length none);
+  old = λ _. omega (arith, ap length none);
+}
 
-stands-sectors_due : (r : Reading) (carries : Bool) (left from : ℕ) → HasRecords r r.shape.pages 0 from →
-    StandsAt (sectors_due (if carries then FrameCount else Whole) left from) r
-stands-sectors_due r carries zero from h =
-    stands-end r carries (higher-sectors r r.shape.pages 0 from r.shape.sectors h.sector_end (omega arith) h)
-stands-sectors_due r carries (suc left) from h = h
+at-end : (r : Reading) (carries : Bool) → has_frames r ≡ carries → HasRecords r r.shape.pages 0 r.shape.sectors → r.frames ≡ [] →
+    IsAt (if carries then FrameCount else Whole) r
+at-end r true is h none = record { stands = h; frames = (is, none) }
+at-end r false is h none = record { stands = h; frames = no-frames r none }
 
-stands-frames_due : (r : Reading) (left : ℕ) → HasRecords r r.shape.pages 0 r.shape.sectors → StandsAt (frames_due left) r
-stands-frames_due r zero h = h
-stands-frames_due r (suc left) h = h
+at-sectors_due : (r : Reading) (carries : Bool) (left from : ℕ) → has_frames r ≡ carries → HasRecords r r.shape.pages 0 from →
+    r.frames ≡ [] → IsAt (sectors_due (if carries then FrameCount else Whole) left from) r
+at-sectors_due r carries zero from is h none =
+    at-end r carries is (higher-sectors r r.shape.pages 0 from r.shape.sectors h.sector_end (omega arith) h) none
+at-sectors_due r carries (suc left) from is h none = record { stands = h; frames = none }
+
+at-frames_due : (r : Reading) (left : ℕ) → HasRecords r r.shape.pages 0 r.shape.sectors → HasFrames r left → IsAt (frames_due left) r
+at-frames_due r zero h f = record { stands = h; frames = f }
+at-frames_due r (suc left) h f = record { stands = h; frames = subst (HasFrames r) (sym (add-one left)) f }
 
 mask-records : (r : Reading) (left page mask : ℕ) → page < r.shape.pages → HasRecords r page 0 0 → (mask == 0) ≡ false →
     HasRecords (moved (record r {
@@ -199,14 +207,13 @@ mask-records r left page mask top h is =
     }
 
 -- a mask
-mask-read : (b : Bool) (r : Reading) (left page mask : ℕ) → IsHead r → page < r.shape.pages → HasRecords r page 0 0 →
+mask-read : (b : Bool) (r : Reading) (left page mask : ℕ) → IsHead r → page < r.shape.pages → HasRecords r page 0 0 → r.frames ≡ [] →
     (mask == 0) ≡ b → IsRead (kept_mask b r left page mask)
 unfolding kept_mask
-mask-read true r left page mask h top records is = failed-read r h
-mask-read false r left page mask h top records is = record {
+mask-read true r left page mask h top records none is = failed-read r h
+mask-read false r left page mask h top records none is = record {
   head = keep-head r _ _ _ _ _ _ _ h;
-  place =
-      (top, mask-records r left page mask top records is);
+  at = record { stands = (top, mask-records r left page mask top records is); frames = none };
 }
 
 not-zero : {b : Bool} → b ≡ false → IsTrue (not b)
@@ -221,19 +228,21 @@ block-records r end due sector_end block is h =
     let blocks = All-push (λ (b : List ℕ). IsTrue (not (is_zero b))) r.blocks block h.blocks (not-zero is) in
     search rules
 
-stands-after_block : (r : Reading) (left page more : ℕ) → page < r.shape.pages → HasRecords r (page + 1) more 0 →
-    StandsAt (after_block left page more) r
-stands-after_block r left page zero top h = stands-pages_due r left (page + 1) h
-stands-after_block r left page (suc more) top h = (top, subst (λ (due : ℕ). HasRecords r (page + 1) due 0) (sym (add-one more)) h)
+at-after_block : (r : Reading) (left page more : ℕ) → page < r.shape.pages → HasRecords r (page + 1) more 0 → r.frames ≡ [] →
+    IsAt (after_block left page more) r
+at-after_block r left page zero top h none = at-pages_due r left (page + 1) h none
+at-after_block r left page (suc more) top h none = record {
+  stands = (top, subst (λ (due : ℕ). HasRecords r (page + 1) due 0) (sym (add-one more)) h);
+  frames = none;
+}
 
 block-read : (b : Bool) (r : Reading) (left page more : ℕ) (block : List ℕ) → IsHead r → page < r.shape.pages →
-    HasRecords r (page + 1) (more + 1) 0 →
-    is_zero block ≡ b → IsRead (kept_block b r left page more block)
+    HasRecords r (page + 1) (more + 1) 0 → r.frames ≡ [] → is_zero block ≡ b → IsRead (kept_block b r left page more block)
 unfolding kept_block
-block-read true r left page more block h top records is = failed-read r h
-block-read false r left page more block h top records is = record {
+block-read true r left page more block h top records none is = failed-read r h
+block-read false r left page more block h top records none is = record {
   head = keep-head r _ _ _ _ _ _ _ h;
-  place = stands-after_block _ left page more top (keep-records _ _ _ _ _ _ _ _ (block-records r (page + 1) more 0 block is records));
+  at = at-after_block _ left page more top (keep-records _ _ _ _ _ _ _ _ (block-records r (page + 1) more 0 block is records)) none;
 }
 
 zero-when-full : (r : Reading) (bytes : List ℕ) → r.known ≡ 80 → get_or r.head 4 0 ≡ 0 → (is_full r && is_zero bytes) ≡ false →
@@ -258,127 +267,26 @@ sector-records r sector bytes top is h = record {
 }
 
 sector-read : (b : Bool) (r : Reading) (left sector : ℕ) (bytes : List ℕ) → IsHead r → sector < r.shape.sectors →
-    HasRecords r r.shape.pages 0 sector →
-    (is_full r && is_zero bytes) ≡ b → IsRead (kept_sector b r left sector bytes)
+    HasRecords r r.shape.pages 0 sector → r.frames ≡ [] → (is_full r && is_zero bytes) ≡ b → IsRead (kept_sector b r left sector bytes)
 unfolding kept_sector
-sector-read true r left sector bytes h top records is = failed-read r h
-sector-read false r left sector bytes h top records is = record {
+sector-read true r left sector bytes h top records none is = failed-read r h
+sector-read false r left sector bytes h top records none is = record {
   head = keep-head r _ _ _ _ _ _ _ h;
-  place = stands-sectors_due _ (has_frames r) left (sector + 1) (keep-records _ _ _ _ _ _ _ _ (sector-records r sector bytes top is records));
-}
-
--- a frame
-frame-read : (r : Reading) (left len : ℕ) (frame : List ℕ) → IsHead r → HasRecords r r.shape.pages 0 r.shape.sectors →
-    IsRead (frame_judged r left len frame)
-unfolding frame_judged
-frame-read r left len frame h records = record {
-  head = keep-head r _ _ _ _ _ _ _ h;
-  place = stands-frames_due _ left (keep-records r _ _ _ _ _ _ _ records);
-}
-
-judged_at-read : (p : Place) (r : Reading) (unit : List ℕ) → r.place ≡ p → IsHead r → StandsAt p r → IsRead (judged_at p r unit)
-judged_at-read Head r unit at h s = number-read _ r _ h s.1 s.0 refl
-judged_at-read PageCount r unit at h s =
-    moved_if-read _ r _ h (λ (e : nat_le (number_spelled Four unit) r.shape.pages ≡ true). stands-pages_due _ _ 0
-    (keep-records r _ _ _ _ 0 0 0 (no-records r s.0 s.1)))
-judged_at-read (PageIndex left from) r unit at h s = moved_if-read _ r _ h (λ e.
-    let tests : (nat_le from (number_spelled Four unit) ≡ true) × (nat_lt (number_spelled Four unit) r.shape.pages ≡ true) = both-true _ _ e in
-    let below : number_spelled Four unit < r.shape.pages = lt-true _ _ tests.1 in
-    (below, keep-records r _ _ _ _ _ 0 0 (higher-pages r from (number_spelled Four unit) 0 0 (le-true _ _ tests.0) (omega arith) s)))
-judged_at-read (PageMask left page) r unit at h s = mask-read _ r left page _ h s.0 s.1 refl
-judged_at-read (Block left page more) r unit at h s = block-read _ r left page more unit h s.0 s.1 refl
-judged_at-read SectorCount r unit at h s = moved_if-read _ r _ h (λ e. stands-sectors_due _ (has_frames r) _ 0 (keep-records r _ _ _ _ _ 0 0 s))
-judged_at-read (SectorIndex left from) r unit at h s = moved_if-read _ r _ h (λ e.
-    let tests : (nat_le from (number_spelled Four unit) ≡ true) × (nat_lt (number_spelled Four unit) r.shape.sectors ≡ true) = both-true _ _ e in
-    let below : number_spelled Four unit < r.shape.sectors = lt-true _ _ tests.1 in
-    (below, keep-records r _ _ _ _ _ 0 _ (higher-sectors r r.shape.pages 0 from (number_spelled Four unit) (le-true _ _ tests.0) (omega arith) s)))
-judged_at-read (SectorBytes left sector) r unit at h s = sector-read _ r left sector unit h s.0 s.1 refl
-judged_at-read FrameCount r unit at h s =
-    moved_if-read _ r _ h (λ e. stands-frames_due _ (number_spelled Four unit) (keep-records r _ _ _ _ _ _ _ s))
-judged_at-read (FrameLength left) r unit at h s = moved_if-read _ r _ h (λ e. keep-records r _ _ _ _ _ _ _ s)
-judged_at-read (FrameBytes left len) r unit at h s = frame-read r left len unit h s
-judged_at-read Whole r unit at h s = record { head = h; place = subst (λ (q : Place). StandsAt q r) (sym at) s }
-judged_at-read (Failed x) r unit at h s = record { head = h; place = subst (λ (q : Place). StandsAt q r) (sym at) s }
-
--- the frames that were read
-
-no-frames : (r : Reading) → r.frames ≡ [] → HasFrames r 0
-no-frames r none = record {
-  each = All-nothing IsFrame r.frames none;
-  count = omega (arith, ap length none);
-  full = λ _. omega (arith, ap length none);
-  old = λ _. omega (arith, ap length none);
+  at = at-sectors_due _ (has_frames r) left (sector + 1) refl
+      (keep-records _ _ _ _ _ _ _ _ (sector-records r sector bytes top is records)) none;
 }
 
 keep-frames : (r : Reading) (offset : ℕ) (place : Place) (partial : List ℕ) (due : ℕ) → HasFrames r due →
     HasFrames (record r { offset = offset; place = place; partial = partial }) due
 keep-frames r offset place partial due h = record { each = h.each; count = h.count; full = h.full; old = h.old }
 
-framed-after_number : (known : ℕ) (r : Reading) → r.frames ≡ [] → FramesAt (after_number known) r
-framed-after_number known r none = elim (known == 80) as (λ (b : Bool). FramesAt (if b then PageCount else Head) r) [
-  | true ↦ none
-  | false ↦ none
-]
-
-framed-pages_due : (r : Reading) (left from : ℕ) → r.frames ≡ [] → FramesAt (pages_due left from) r
-framed-pages_due r zero from none = none
-framed-pages_due r (suc left) from none = none
-
-framed-after_block : (r : Reading) (left page more : ℕ) → r.frames ≡ [] → FramesAt (after_block left page more) r
-framed-after_block r left page zero none = framed-pages_due r left (page + 1) none
-framed-after_block r left page (suc more) none = none
-
-framed-end : (r : Reading) (carries : Bool) → has_frames r ≡ carries → r.frames ≡ [] →
-    FramesAt (if carries then FrameCount else Whole) r
-framed-end r true is none = (is, none)
-framed-end r false is none = no-frames r none
-
-framed-sectors_due : (r : Reading) (carries : Bool) (left from : ℕ) → has_frames r ≡ carries → r.frames ≡ [] →
-    FramesAt (sectors_due (if carries then FrameCount else Whole) left from) r
-framed-sectors_due r carries zero from is none = framed-end r carries is none
-framed-sectors_due r carries (suc left) from is none = none
-
-framed-frames_due : (r : Reading) (left : ℕ) → HasFrames r left → FramesAt (frames_due left) r
-framed-frames_due r zero h = h
-framed-frames_due r (suc left) h = subst (HasFrames r) (sym (add-one left)) h
-
-number-framed : (b : Bool) (r : Reading) (row : Row) (n : ℕ) → r.frames ≡ [] →
-    FramesAt (kept_number b r row n).place (kept_number b r row n)
-unfolding kept_number
-number-framed false r row n none = tt
-number-framed true r row n none = framed-after_number (r.known + 1) _ none
-
-moved_if-framed : (b : Bool) (r : Reading) (place : Place) → (b ≡ true → FramesAt place (moved r 4 place)) →
-    FramesAt (moved_if b r place).place (moved_if b r place)
-unfolding moved_if
-moved_if-framed false r place f = tt
-moved_if-framed true r place f = f refl
-
-mask-framed : (b : Bool) (r : Reading) (left page mask : ℕ) → r.frames ≡ [] →
-    FramesAt (kept_mask b r left page mask).place (kept_mask b r left page mask)
-unfolding kept_mask
-mask-framed true r left page mask none = tt
-mask-framed false r left page mask none = none
-
-block-framed : (b : Bool) (r : Reading) (left page more : ℕ) (block : List ℕ) → r.frames ≡ [] →
-    FramesAt (kept_block b r left page more block).place (kept_block b r left page more block)
-unfolding kept_block
-block-framed true r left page more block none = tt
-block-framed false r left page more block none = framed-after_block _ left page more none
-
-sector-framed : (b : Bool) (r : Reading) (left sector : ℕ) (bytes : List ℕ) → r.frames ≡ [] →
-    FramesAt (kept_sector b r left sector bytes).place (kept_sector b r left sector bytes)
-unfolding kept_sector
-sector-framed true r left sector bytes none = tt
-sector-framed false r left sector bytes none = framed-sectors_due _ (has_frames r) left (sector + 1) refl none
-
 -- as many frames as a checkpoint may carry
 most : (full : Bool) (n : ℕ) → n ≤ (if full then 0 else 256) → (n ≤ 256) × (full ≡ true → n ≡ 0)
 most true n h = (omega (arith, h), λ _. omega (arith, h))
 most false n h = (h, λ (e : false ≡ true). cc)
 
-frame_count-framed : (r : Reading) (n : ℕ) → has_frames r ≡ true → r.frames ≡ [] → n ≤ most_frames r → HasFrames r n
-frame_count-framed r n carries none few =
+frame_count-frames : (r : Reading) (n : ℕ) → has_frames r ≡ true → r.frames ≡ [] → n ≤ most_frames r → HasFrames r n
+frame_count-frames r n carries none few =
     let limit : (n ≤ 256) × (is_full r ≡ true → n ≡ 0) = most (is_full r) n few in
     record {
       each = All-nothing IsFrame r.frames none;
@@ -390,46 +298,79 @@ frame_count-framed r n carries none few =
     other : true ≡ false → ⊥
     other e = cc
 
-frame-framed : (r : Reading) (left len : ℕ) (frame : List ℕ) → (14 ≤ len) × (len ≤ 1514) → HasFrames r (left + 1) → length frame ≡ len →
-    FramesAt (frame_judged r left len frame).place (frame_judged r left len frame)
+-- a frame
+frame-read : (r : Reading) (left len : ℕ) (frame : List ℕ) → IsHead r → HasRecords r r.shape.pages 0 r.shape.sectors →
+    (14 ≤ len) × (len ≤ 1514) → HasFrames r (left + 1) → length frame ≡ len → IsRead (frame_judged r left len frame)
 unfolding frame_judged
-frame-framed r left len frame within h wide =
-    framed-frames_due _ left (record {
-      each = All-push IsFrame r.frames _ h.each (omega (arith, within.0, wide), omega (arith, within.1, wide));
-      count = omega (arith, h.count, length-append r.frames ((record { items = frame }) ∷ []));
-      full = λ e. absurd (omega (arith, h.full e));
-      old = λ e. absurd (omega (arith, h.old e));
-    })
+frame-read r left len frame h records within f wide = record {
+  head = keep-head r _ _ _ _ _ _ _ h;
+  at = at-frames_due _ left (keep-records r _ _ _ _ _ _ _ records) (record {
+    each = All-push IsFrame r.frames _ f.each (omega (arith, within.0, wide), omega (arith, within.1, wide));
+    count = omega (arith, f.count, length-append r.frames ((record { items = frame }) ∷ []));
+    full = λ e. absurd (omega (arith, f.full e));
+    old = λ e. absurd (omega (arith, f.old e));
+  });
+}
 
-judged_at-framed : (p : Place) (r : Reading) (unit : List ℕ) → r.place ≡ p → FramesAt p r → length unit ≡ width_at p r.known →
-    FramesAt (judged_at p r unit).place (judged_at p r unit)
-judged_at-framed Head r unit at s wide = number-framed _ r _ _ s
-judged_at-framed PageCount r unit at s wide = moved_if-framed _ r _ (λ e. framed-pages_due _ (number_spelled Four unit) 0 s)
-judged_at-framed (PageIndex left from) r unit at s wide = moved_if-framed _ r _ (λ e. s)
-judged_at-framed (PageMask left page) r unit at s wide = mask-framed _ r left page _ s
-judged_at-framed (Block left page more) r unit at s wide = block-framed _ r left page more unit s
-judged_at-framed SectorCount r unit at s wide =
-    moved_if-framed _ r _ (λ e. framed-sectors_due _ (has_frames r) (number_spelled Four unit) 0 refl s)
-judged_at-framed (SectorIndex left from) r unit at s wide = moved_if-framed _ r _ (λ e. s)
-judged_at-framed (SectorBytes left sector) r unit at s wide = sector-framed _ r left sector unit s
-judged_at-framed FrameCount r unit at s wide = moved_if-framed _ r _ (λ (e : nat_le (number_spelled Four unit) (most_frames r) ≡ true).
-    framed-frames_due _ (number_spelled Four unit)
-    (keep-frames r _ _ _ _ (frame_count-framed r (number_spelled Four unit) s.0 s.1 (le-true _ _ e))))
-judged_at-framed (FrameLength left) r unit at s wide = moved_if-framed _ r _ (λ e.
+closed-read : (r : Reading) (p : Place) → r.place ≡ p → IsHead r → StandsAt p r → FramesAt p r → IsRead r
+closed-read r p at h s f = record {
+  head = h;
+  at = subst (λ (q : Place). IsAt q r) (sym at) (record { stands = s; frames = f });
+}
+
+judged_at-read : (p : Place) (r : Reading) (unit : List ℕ) → r.place ≡ p → IsHead r → StandsAt p r → FramesAt p r →
+    length unit ≡ width_at p r.known → IsRead (judged_at p r unit)
+judged_at-read Head r unit at h s f wide = number-read _ r _ h s.1 f s.0 refl
+judged_at-read PageCount r unit at h s f wide = moved_if-read _ r _ h (λ (e : nat_le (number_spelled Four unit) r.shape.pages ≡ true).
+    at-pages_due _ _ 0 (keep-records r _ _ _ _ _ 0 0 (no-records r s.0 s.1)) f)
+judged_at-read (PageIndex left from) r unit at h s f wide = moved_if-read _ r _ h (λ e.
+    let tests : (nat_le from (number_spelled Four unit) ≡ true) × (nat_lt (number_spelled Four unit) r.shape.pages ≡ true) = both-true _ _ e in
+    let below : number_spelled Four unit < r.shape.pages = lt-true _ _ tests.1 in
+    record {
+      stands = (
+        below,
+        keep-records r _ _ _ _ _ 0 0
+            (higher-pages r from (number_spelled Four unit) 0 0 (le-true _ _ tests.0) (omega arith) s),
+      );
+      frames = f;
+    })
+judged_at-read (PageMask left page) r unit at h s f wide = mask-read _ r left page _ h s.0 s.1 f refl
+judged_at-read (Block left page more) r unit at h s f wide = block-read _ r left page more unit h s.0 s.1 f refl
+judged_at-read SectorCount r unit at h s f wide =
+    moved_if-read _ r _ h (λ e. at-sectors_due _ (has_frames r) _ 0 refl (keep-records r _ _ _ _ _ 0 0 s) f)
+judged_at-read (SectorIndex left from) r unit at h s f wide = moved_if-read _ r _ h (λ e.
+    let tests : (nat_le from (number_spelled Four unit) ≡ true) × (nat_lt (number_spelled Four unit) r.shape.sectors ≡ true) = both-true _ _ e in
+    let below : number_spelled Four unit < r.shape.sectors = lt-true _ _ tests.1 in
+    record {
+      stands = (
+        below,
+        keep-records r _ _ _ _ _ 0 _
+            (higher-sectors r r.shape.pages 0 from (number_spelled Four unit) (le-true _ _ tests.0) (omega arith) s),
+      );
+      frames = f;
+    })
+judged_at-read (SectorBytes left sector) r unit at h s f wide = sector-read _ r left sector unit h s.0 s.1 f refl
+judged_at-read FrameCount r unit at h s f wide = moved_if-read _ r _ h (λ (e : nat_le (number_spelled Four unit) (most_frames r) ≡ true).
+    at-frames_due _ (number_spelled Four unit) (keep-records r _ _ _ _ _ _ _ s)
+    (keep-frames r _ _ _ _ (frame_count-frames r (number_spelled Four unit) f.0 f.1 (le-true _ _ e))))
+judged_at-read (FrameLength left) r unit at h s f wide = moved_if-read _ r _ h (λ e.
     let tests : (nat_le 14 (number_spelled Four unit) ≡ true) × (nat_le (number_spelled Four unit) 1514 ≡ true) = both-true _ _ e in
-    ((le-true _ _ tests.0, le-true _ _ tests.1), keep-frames r _ _ _ _ s))
-judged_at-framed (FrameBytes left len) r unit at s wide = frame-framed r left len unit s.0 s.1 wide
-judged_at-framed Whole r unit at s wide = subst (λ (q : Place). FramesAt q r) (sym at) s
-judged_at-framed (Failed x) r unit at s wide = subst (λ (q : Place). FramesAt q r) (sym at) s
+    record {
+      stands = keep-records r _ _ _ _ _ _ _ s;
+      frames = ((le-true _ _ tests.0, le-true _ _ tests.1), keep-frames r _ _ _ _ f);
+    })
+judged_at-read (FrameBytes left len) r unit at h s f wide = frame-read r left len unit h s f.0 f.1 wide
+judged_at-read Whole r unit at h s f wide = closed-read r Whole at h s f
+judged_at-read (Failed x) r unit at h s f wide = closed-read r (Failed x) at h s f
 
 judged-sound : (r : Reading) (unit : List ℕ) → length unit ≡ width_of r → IsSound r → IsSound (judged r unit)
 unfolding judged
 judged-sound r unit wide h =
-    let read : IsRead (judged_at r.place r unit) = judged_at-read r.place r unit refl h.head h.place in
+    let read : IsRead (judged_at r.place r unit) = judged_at-read r.place r unit refl h.head h.place h.frames wide in
     record {
       head = read.head;
-      place = read.place;
-      frames = judged_at-framed r.place r unit refl h.frames wide;
+      place = read.at.stands;
+      frames = read.at.frames;
       few = judged_at-few r.place r unit h.place h.frames wide h.few;
     }
 

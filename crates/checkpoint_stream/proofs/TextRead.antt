@@ -14,7 +14,7 @@ use Rattle.checkpoint_stream.specs.{Sound.{change_in, last_after, version_from},
 use Rattle.checkpoint_stream.specs.{Text.{frame_units, units, joined, text}, Units.judged_all}
 use Rattle.checkpoint_stream.specs.{Units.AreUnits, Widths.{HasWidths, StateFits}, ReadBack.ReadsBack}
 use Rattle.checkpoint_stream.proofs.{Feeding.{Takes-nothing, Takes-append, Takes-unit}, Leading.{at, standing, Leads, Leads-append, Leads-none}}
-use Rattle.checkpoint_stream.proofs.Leading.{Leads-number}
+use Rattle.checkpoint_stream.proofs.{Leading.Leads-number, Numbers.eq-true}
 use Rattle.checkpoint_stream.proofs.{HeadRead.numbers-lead, HeadFits.{IsWord, head-passes, head-fits}, StateRead.{state-back, numbers-back}}
 use Rattle.checkpoint_stream.proofs.RecordsRead.{FitsMask, IsBlockWide, IsSectorWide, Rises-end, PagesLeft, pages-lead}
 use Rattle.checkpoint_stream.proofs.{SectorsRead.{SectorsLeft, sectors-lead}, FramesRead.counted-lead}
@@ -55,12 +55,9 @@ pages-left c h w = record {
 }
 
 -- a full one
-is-zero : (n : ℕ) → (n == 0) ≡ true → n ≡ 0
-is-zero n e = grind (arith, nat_tests)
-
 full-number : (c : Change) → is_full (headed c) ≡ true → c.number ≡ 0
 unfolding head_numbers
-full-number c e = is-zero c.number e
+full-number c e = eq-true c.number 0 e
 
 sectors-left : (c : Change) → IsCanonical c → HasWidths c → SectorsLeft c.shape (is_full (headed c)) 0 c.sectors
 sectors-left c h w = record { rises = h.sectors; some = λ e. h.full_sectors (full-number c e); wide = w.sectors }
@@ -70,10 +67,7 @@ ending-lead : (c : Change) (r : Reading) (old : Bool) → IsCanonical c → (c.v
     after_sectors r ≡ (if old then Whole else FrameCount) → (is_full r ≡ true → c.frames ≡ []) → r.frames ≡ [] →
     Leads (record r { place = after_sectors r }) (if old then [] else bytes_of Four (length c.frames) ∷ frame_units c.frames)
     (record r { place = Whole; frames = c.frames })
-ending-lead c r true h is ends full none = rw (ends, h.old_frames (is-one c.version is), ← none) (Leads-none _)
-  where
-    is-one : (n : ℕ) → (n == 1) ≡ true → n ≡ 1
-    is-one n e = grind (arith, nat_tests)
+ending-lead c r true h is ends full none = rw (ends, h.old_frames (eq-true c.version 1 is), ← none) (Leads-none _)
 ending-lead c r false h is ends full none =
     rw ends (subst (λ (fs : List (ArrayVec ℕ)). Leads (record r { place = FrameCount }) (bytes_of Four (length c.frames) ∷ frame_units c.frames)
     (record r { place = Whole; frames = fs ++ c.frames })) none (counted-lead r c.frames h.frame_count full h.frames))
@@ -107,13 +101,10 @@ units-lead c h w =
 version-back : (version : ℕ) → 1 ≤ version → version ≤ 2 → version_from (magic version) ≡ version
 version-back version least last =
     elim (version == 1) as (λ (old : Bool). (version == 1) ≡ old → version_from (if old then 0x31434d52 else 0x32434d52) ≡ version) [
-      | true ↦ λ (e : (version == 1) ≡ true). one version e
+      | true ↦ λ (e : (version == 1) ≡ true). sym (eq-true version 1 e)
       | false ↦ λ (e : (version == 1) ≡ false). two version least last e
     ] refl
   where
-    one : (n : ℕ) → (n == 1) ≡ true → 1 ≡ n
-    one n e = grind (arith, nat_tests)
-
     two : (n : ℕ) → 1 ≤ n → n ≤ 2 → (n == 1) ≡ false → 2 ≡ n
     two n h k e = grind (arith, nat_tests)
 

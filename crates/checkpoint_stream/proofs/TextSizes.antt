@@ -1,5 +1,5 @@
 -- How long a checkpoint's text is at most, by its shape.
-use Rattle.std.proofs.Common.{◌≡◌, ℕ, ◌+◌, ◌*◌, ◌≤◌, List, [], ◌∷◌, ◌++◌, length, take, drop, map, refl, ap, arith, All, count_ones}
+use Rattle.std.proofs.Common.{◌≡◌, ℕ, ◌+◌, ◌*◌, ◌≤◌, List, [], ◌∷◌, ◌++◌, length, take, drop, map, ap, arith, All, count_ones}
 use Rattle.std.proofs.lemmas.List.{length-append, length-take, length-drop, length-map}
 use Rattle.std.proofs.lemmas.List.Elements.{All-head, All-tail, All-take, All-drop}
 use Rattle.arrayvec.specs.ArrayVec.{ArrayVec}
@@ -12,10 +12,10 @@ use Rattle.checkpoint_stream.specs.Text.{head_numbers, number_units, page_record
 use Rattle.checkpoint_stream.specs.Widths.{HasWidths}
 use Rattle.checkpoint_stream.specs.declared.rules.Row.{Row}
 use Rattle.checkpoint_stream.specs.declared.rules.Width.TheVariants.{Four, Eight}
-use Rattle.checkpoint_stream.proofs.Numbers.{length-bytes_of}
+use Rattle.checkpoint_stream.proofs.Numbers.{length-bytes_of, length-head_table, width-most}
 use Rattle.checkpoint_stream.proofs.Spelling.{joined-append, text-spelled, frames-spelled}
 use Rattle.checkpoint_stream.specs.Bounds.{most_text}
-use Rattle.checkpoint_stream.proofs.Holding.{narrow, blocks-few}
+use Rattle.checkpoint_stream.proofs.Holding.{blocks-few}
 use Rattle.checkpoint_stream.proofs.RecordsRead.{Rises-end}
 
 head_size : (rows : List Row) (ns : List ℕ) → length (joined (number_units rows ns)) ≤ 8 * length rows
@@ -27,7 +27,7 @@ head_size (row ∷ rows) (n ∷ ns) =
       arith,
       length-append (bytes_of row.width n) (joined (number_units rows ns)),
       length-bytes_of row.width n,
-      narrow row.width,
+      width-most row.width,
       head_size rows ns,
     )
 
@@ -99,10 +99,6 @@ frames_size (f ∷ fs) all =
       frames_size fs (All-tail IsFrame f fs all),
     )
 
-rows_80 : length head_table ≡ 80
-unfolding head_table
-rows_80 = refl
-
 pub text_size : (c : Change) → c.version ≡ 2 → IsCanonical c → HasWidths c → length (text c) ≤ most_text c.shape
 text_size c second canonical widths =
     let head = joined (number_units head_table (head_numbers c)) in
@@ -124,7 +120,7 @@ text_size c second canonical widths =
       ap (λ (l : List ℕ). length l) (frames-spelled c.version c.frames second),
       length-append f frames,
       head_size head_table (head_numbers c),
-      rows_80,
+      length-head_table,
       length-bytes_of Four (length c.pages),
       length-bytes_of Four (length c.sectors),
       length-bytes_of Four (length c.frames),

@@ -13,7 +13,7 @@ use Rattle.checkpoint_stream.specs.Readings.{Reading, moved_if, kept_number, kep
 use Rattle.checkpoint_stream.specs.Readings.{pages_due, sectors_due, frames_due, after_number, after_sectors, is_closed, width_at, has_frames}
 use Rattle.checkpoint_stream.specs.{Sound.{IsHead, StandsAt}, Taken.Extends}
 use Rattle.checkpoint_stream.specs.Text.{number_units, page_units, sector_units, frame_units}
-use Rattle.checkpoint_stream.proofs.{Numbers.{IsByte, limit_of, bytes-back, number-small}, HeadBack.Narrow}
+use Rattle.checkpoint_stream.proofs.{Numbers.{IsByte, eq-true, length-head_table, limit_of, bytes-back, number-small}, HeadBack.Narrow}
 
 -- of a whole reading what isn't read yet: the rows of the head's table that are left, the numbers, the records and the frames; and whether it
 -- is of version 2
@@ -168,10 +168,6 @@ frame-first n [] h = absurd h
 frame-first n (g ∷ gs) h = joined-by _ _ _ _ (ap (bytes_of Four) h) refl
 
 -- a number of the head
-length-head_table : length head_table ≡ 80
-unfolding head_table
-length-head_table = refl
-
 record AtNumber (p : Place) (l : Left) : Type 0 where
   small : Narrow l.rows l.numbers
   units : to_come p l ≡ number_units l.rows l.numbers ++ after_head l
@@ -182,14 +178,11 @@ after_number-first l known none h =
     elim (known == 80) as (λ (b : Bool). (known == 80) ≡ b → LeftAt (if b then PageCount else Head) l →
     AtNumber (if b then PageCount else Head) l) [
       | true ↦ λ (e : (known == 80) ≡ true) (_ : Unit {0}). record {
-        small = subst (λ (rows : List Row). Narrow rows l.numbers) (sym (none (is-80 known e))) tt;
-        units = sym (ap (λ (rows : List Row). number_units rows l.numbers ++ after_head l) (none (is-80 known e)));
+        small = subst (λ (rows : List Row). Narrow rows l.numbers) (sym (none (eq-true known 80 e))) tt;
+        units = sym (ap (λ (rows : List Row). number_units rows l.numbers ++ after_head l) (none (eq-true known 80 e)));
       }
       | false ↦ λ (_ : (known == 80) ≡ false) (s : Narrow l.rows l.numbers). record { small = s; units = refl }
     ] refl h
-  where
-    is-80 : (n : ℕ) → (n == 80) ≡ true → n ≡ 80
-    is-80 n e = grind (arith, nat_tests)
 
 row-left : (r : Reading) (n : ℕ) → IsHead r → r.known < 80 →
     drop (length r.head) head_table ≡ row_at r.known ∷ drop (length (r.head ++ n ∷ [])) head_table

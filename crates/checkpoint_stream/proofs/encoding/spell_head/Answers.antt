@@ -3,13 +3,9 @@ use Rattle.std.proofs.Common.{append_assoc, take-append-drop, length-take-le, le
 use Rattle.std.{proofs.lemmas.List.Elements.All-more, specs.Int.{w64, to_le_bytes}}
 use Rattle.checkpoint_stream.specs.{HeadTable.{head_table, row_at, bytes_of, bytes_in}, declared.rules.{Row.Row, Width.Width}}
 use Rattle.checkpoint_stream.specs.declared.rules.Width.TheVariants.{Two, Four, Eight}
-use Rattle.checkpoint_stream.proofs.{HeadFits.IsWord, RunLemmas.width-most, Feeding.take-filled}
+use Rattle.checkpoint_stream.proofs.{HeadFits.IsWord, Numbers.{length-head_table, width-most}, Feeding.take-filled}
 use Rattle.checkpoint_stream.proofs.Spelling.{advance, finish, number_units-drop, number_units-done, all-seen}
 use Rattle.checkpoint_stream.proofs.encoding.spell_head.Goals as goal
-
-length-head_table : length head_table ≡ 80
-unfolding head_table
-length-head_table = refl
 
 bytes-front : (w : Width) (n : ℕ) → bytes_of w n ≡ take (bytes_in w) (to_le_bytes w64 n)
 unfolding bytes_of

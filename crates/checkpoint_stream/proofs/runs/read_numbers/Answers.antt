@@ -1,5 +1,5 @@
 use Rattle.std.proofs.Common.{◌≡◌, ◌+◌, ◌-◌, ℕ, take, drop, length-set, sym, ◌∙◌, ap, arith}
-use Rattle.checkpoint_stream.{specs.HeadTable.number_spelled, proofs.{Feeding.Takes-nothing, RunLemmas.{numbered-next, width-most}}}
+use Rattle.checkpoint_stream.{specs.HeadTable.number_spelled, proofs.{Feeding.Takes-nothing, RunLemmas.numbered-next, Numbers.width-most}}
 use Rattle.checkpoint_stream.proofs.runs.read_numbers.Goals as goal
 
 pub loop-known-init : goal.loop-known-init
