@@ -1,111 +1,77 @@
--- Each unit leaves a reading no more records and frames than its shape allows.
-use Rattle.std.proofs.Common.{◌≡◌, ℕ, ◌+◌, ◌*◌, ◌<◌, ◌≤◌, List, [], ◌∷◌, ◌++◌, length, Bool, true, false, arith, map, All}
-use Rattle.std.proofs.Common.{count_ones, length-append, take, ap}
-use Rattle.std.proofs.lemmas.{List.{length-map, length-take}, List.Elements.{All-push, All-head, All-tail}, List.Sums.{sum_by-cons, sum_by_push}, Nat.ones-le}
+-- A reading holds no more records and frames than its shape allows.
+use Rattle.std.proofs.Common.{◌≡◌, ℕ, ◌*◌, ◌<◌, ◌≤◌, List, [], ◌∷◌, ◌++◌, length, arith, map, All}
+use Rattle.std.proofs.Common.{count_ones, length-append, take, ap, sym, subst}
+use Rattle.std.proofs.lemmas.{List.{length-map, length-take}, List.Elements.{All-nil, All-head, All-tail}, List.Sums.{sum_by-cons}, Nat.ones-le}
 use Rattle.epoch_snapshot.specs.declared.changes.{PageChange.PageChange, SectorChange.SectorChange}
 use Rattle.epoch_snapshot.specs.Checkpoints.{block_count}
-use Rattle.checkpoint_stream.specs.declared.{rules.Row.Row, place.Place.Place}
+use Rattle.checkpoint_stream.specs.declared.{place.Place.Place}
 use Rattle.checkpoint_stream.specs.declared.place.Place.TheVariants.{Head, PageCount, PageIndex, PageMask, Block, SectorCount, SectorIndex}
 use Rattle.checkpoint_stream.specs.declared.place.Place.TheVariants.{SectorBytes, FrameCount, FrameLength, FrameBytes, Whole, Failed}
-use Rattle.checkpoint_stream.specs.{Readings.{Reading, moved_if, kept_number, kept_mask, kept_block, kept_sector, frame_judged, judged_at}}
-use Rattle.checkpoint_stream.specs.{Readings.width_at, Sound.{HoldsFew, HasRecords, HasFrames, StandsAt, FramesAt}, Taken.HasPlaces}
+use Rattle.checkpoint_stream.specs.{Readings.Reading}
+use Rattle.checkpoint_stream.specs.{Readings.width_at, Sound.{HoldsFew, HasNoRecords, HasRecords, HasFrames, StandsAt, FramesAt}, Taken.HasPlaces}
 use Rattle.checkpoint_stream.specs.{HeadTable.{row_at}}
 use Rattle.checkpoint_stream.proofs.{RecordsRead.{Rises-end, FitsMask}, Numbers.width-most}
 use Rattle.net_device.specs.Frames.{IsFrame}
 
 -- what changes no record and no frame
-pub keep-few : (r : Reading) (offset known before : ℕ) (place : Place) (head partial : List ℕ) → HoldsFew r →
-    HoldsFew (record r { offset = offset; place = place; known = known; head = head; before = before; partial = partial })
-keep-few r offset known before place head partial h =
+pub keep-few : (r : Reading) (place : Place) (partial : List ℕ) → HoldsFew r → HoldsFew (record r { place = place; partial = partial })
+keep-few r place partial h =
     record { pages = h.pages; blocks = h.blocks; sectors = h.sectors; frames = h.frames; each_frame = h.each_frame }
 
-number-few : (b : Bool) (r : Reading) (row : Row) (n : ℕ) → HoldsFew r → HoldsFew (kept_number b r row n)
-unfolding kept_number
-number-few false r row n h = keep-few r _ _ _ _ _ _ h
-number-few true r row n h = keep-few r _ _ _ _ _ _ h
-
-moved_if-few : (b : Bool) (r : Reading) (place : Place) → HoldsFew r → HoldsFew (moved_if b r place)
-unfolding moved_if
-moved_if-few false r place h = keep-few r _ _ _ _ _ _ h
-moved_if-few true r place h = keep-few r _ _ _ _ _ _ h
-
--- a page's record: the pages before it are lower
-mask-few : (b : Bool) (r : Reading) (left page mask : ℕ) → page < r.shape.pages → HasRecords r page 0 0 → HoldsFew r →
-    HoldsFew (kept_mask b r left page mask)
-unfolding kept_mask
-mask-few true r left page mask top records h = keep-few r _ _ _ _ _ _ h
-mask-few false r left page mask top records h =
-    let p : PageChange = record { page = page; mask = mask } in
-    record {
-      pages = omega (
-        arith,
-        top,
-        Rises-end 0 page (map (λ (q : PageChange). q.page) r.pages) records.pages,
-        length-map r.pages (λ (q : PageChange). q.page),
-        length-append r.pages (p ∷ []),
-      );
-      blocks = omega (arith, h.blocks, sum_by_push (λ (q : PageChange). count_ones q.mask) r.pages p);
-      sectors = h.sectors;
-      frames = h.frames;
-      each_frame = h.each_frame;
-    }
-
-block-few : (b : Bool) (r : Reading) (left page more : ℕ) (block : List ℕ) → HasRecords r (page + 1) (more + 1) 0 → HoldsFew r →
-    HoldsFew (kept_block b r left page more block)
-unfolding kept_block
-block-few true r left page more block records h = keep-few r _ _ _ _ _ _ h
-block-few false r left page more block records h = record {
-  pages = h.pages;
-  blocks = omega (arith, records.count, length-append r.blocks (block ∷ []));
-  sectors = h.sectors;
-  frames = h.frames;
-  each_frame = h.each_frame;
-}
-
-sector-few : (b : Bool) (r : Reading) (left sector : ℕ) (bytes : List ℕ) → sector < r.shape.sectors →
-    HasRecords r r.shape.pages 0 sector → HoldsFew r → HoldsFew (kept_sector b r left sector bytes)
-unfolding kept_sector
-sector-few true r left sector bytes top records h = keep-few r _ _ _ _ _ _ h
-sector-few false r left sector bytes top records h = record {
-  pages = h.pages;
-  blocks = h.blocks;
+-- the pages that were read are lower than the limit, and so are the sectors
+few-records : (r : Reading) (page_limit due sector_limit : ℕ) → HasRecords r page_limit due sector_limit → length r.frames ≤ 256 →
+    All IsFrame r.frames → HoldsFew r
+few-records r page_limit due sector_limit h few each = record {
+  pages = omega (
+    arith,
+    h.page_end,
+    Rises-end 0 page_limit (map (λ (p : PageChange). p.page) r.pages) h.pages,
+    length-map r.pages (λ (p : PageChange). p.page),
+  );
+  blocks = omega (arith, h.count);
   sectors = omega (
     arith,
-    top,
-    Rises-end 0 sector (map (λ (s : SectorChange). s.sector) r.sectors) records.sectors,
+    h.sector_end,
+    Rises-end 0 sector_limit (map (λ (s : SectorChange). s.sector) r.sectors) h.sectors,
     length-map r.sectors (λ (s : SectorChange). s.sector),
-    length-append r.sectors ((record { sector = sector; bytes = bytes }) ∷ []),
   );
-  frames = h.frames;
-  each_frame = h.each_frame;
+  frames = few;
+  each_frame = each;
 }
 
-frame-few : (r : Reading) (left len : ℕ) (frame : List ℕ) → (14 ≤ len) × (len ≤ 1514) → HasFrames r (left + 1) → length frame ≡ len →
-    HoldsFew r → HoldsFew (frame_judged r left len frame)
-unfolding frame_judged
-frame-few r left len frame within due wide h = record {
-  pages = h.pages;
-  blocks = h.blocks;
-  sectors = h.sectors;
-  frames = omega (arith, due.count, length-append r.frames ((record { items = frame }) ∷ []));
-  each_frame = All-push IsFrame r.frames _ h.each_frame (omega (arith, within.0, wide), omega (arith, within.1, wide));
+no-frame : (r : Reading) → r.frames ≡ [] → All IsFrame r.frames
+no-frame r none = subst (All IsFrame) (sym none) (All-nil IsFrame)
+
+few-unframed : (r : Reading) (page_limit due sector_limit : ℕ) → HasRecords r page_limit due sector_limit → r.frames ≡ [] → HoldsFew r
+few-unframed r page_limit due sector_limit h none =
+    few-records r page_limit due sector_limit h (omega (arith, ap length none)) (no-frame r none)
+
+few-nothing : (r : Reading) → HasNoRecords r → r.frames ≡ [] → HoldsFew r
+few-nothing r h none = record {
+  pages = omega (arith, ap length h.pages);
+  blocks = omega (arith, ap length h.blocks);
+  sectors = omega (arith, ap length h.sectors);
+  frames = omega (arith, ap length none);
+  each_frame = no-frame r none;
 }
 
-pub judged_at-few : (p : Place) (r : Reading) (unit : List ℕ) → StandsAt p r → FramesAt p r → length unit ≡ width_at p r.known →
-    HoldsFew r → HoldsFew (judged_at p r unit)
-judged_at-few Head r unit s f wide h = number-few _ r _ _ h
-judged_at-few PageCount r unit s f wide h = moved_if-few _ r _ h
-judged_at-few (PageIndex left from) r unit s f wide h = moved_if-few _ r _ h
-judged_at-few (PageMask left page) r unit s f wide h = mask-few _ r left page _ s.0 s.1 h
-judged_at-few (Block left page more) r unit s f wide h = block-few _ r left page more unit s.1 h
-judged_at-few SectorCount r unit s f wide h = moved_if-few _ r _ h
-judged_at-few (SectorIndex left from) r unit s f wide h = moved_if-few _ r _ h
-judged_at-few (SectorBytes left sector) r unit s f wide h = sector-few _ r left sector unit s.0 s.1 h
-judged_at-few FrameCount r unit s f wide h = moved_if-few _ r _ h
-judged_at-few (FrameLength left) r unit s f wide h = moved_if-few _ r _ h
-judged_at-few (FrameBytes left len) r unit s f wide h = frame-few r left len unit f.0 f.1 wide h
-judged_at-few Whole r unit s f wide h = h
-judged_at-few (Failed at) r unit s f wide h = h
+few-frames : (r : Reading) (due : ℕ) → HasRecords r r.shape.pages 0 r.shape.sectors → HasFrames r due → HoldsFew r
+few-frames r due h f = few-records r r.shape.pages 0 r.shape.sectors h (omega (arith, f.count)) f.each
+
+pub few-at : (p : Place) (r : Reading) → StandsAt p r → FramesAt p r → HoldsFew r
+few-at Head r s f = few-nothing r s.1 f
+few-at PageCount r s f = few-nothing r s.1 f
+few-at (PageIndex left from) r s f = few-unframed r _ _ _ s f
+few-at (PageMask left page) r s f = few-unframed r _ _ _ s.1 f
+few-at (Block left page more) r s f = few-unframed r _ _ _ s.1 f
+few-at SectorCount r s f = few-unframed r _ _ _ s f
+few-at (SectorIndex left from) r s f = few-unframed r _ _ _ s f
+few-at (SectorBytes left sector) r s f = few-unframed r _ _ _ s.1 f
+few-at FrameCount r s f = few-unframed r _ _ _ s f.1
+few-at (FrameLength left) r s f = few-frames r _ s f
+few-at (FrameBytes left len) r s f = few-frames r _ s f.1
+few-at Whole r s f = few-frames r _ s f
+few-at (Failed at) r s f = s
 
 -- at most 64 blocks of each page
 pub blocks-few : (ps : List PageChange) → All FitsMask ps → block_count ps ≤ 64 * length ps

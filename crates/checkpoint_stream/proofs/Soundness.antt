@@ -12,9 +12,9 @@ use Rattle.checkpoint_stream.specs.declared.place.Place.TheVariants.{SectorBytes
 use Rattle.checkpoint_stream.specs.{HeadTable.{head_table, row_at, passes, number_spelled, number}, Readings.{Reading, is_full, failed, moved}}
 use Rattle.checkpoint_stream.specs.Readings.{pages_due, sectors_due, after_block, after_number, moved_if, has_frames, most_frames}
 use Rattle.checkpoint_stream.specs.Readings.{frames_due, frame_judged, width_at, kept_number, kept_mask, kept_block, kept_sector, judged}
-use Rattle.checkpoint_stream.specs.{Readings.{judged_at, is_closed, fed_byte, fed, begun, width_of}, Sound.{IsSound, IsHead, HasNoRecords}}
+use Rattle.checkpoint_stream.specs.{Readings.{judged_at, is_closed, fed_byte, fed, begun, width_of}, Sound.{IsSound, IsHead, HasNoRecords, HoldsFew}}
 use Rattle.checkpoint_stream.specs.Sound.{HasRecords, StandsAt, HasFrames, FramesAt, AllPass, last_after}
-use Rattle.checkpoint_stream.proofs.{Holding.{keep-few, judged_at-few}, Numbers.{eq-true, length-head_table}}
+use Rattle.checkpoint_stream.proofs.{Holding.{keep-few, few-at}, Numbers.{eq-true, length-head_table}}
 use Rattle.net_device.specs.Frames.{IsFrame}
 use Rattle.arrayvec.specs.ArrayVec.{ArrayVec}
 
@@ -69,8 +69,8 @@ record IsRead (r : Reading) : Type 0 where
   head : IsHead r
   at : IsAt r.place r
 
-failed-read : (r : Reading) → IsHead r → IsRead (failed r)
-failed-read r h = record { head = keep-head r _ _ _ _ _ _ _ h; at = record { stands = tt; frames = tt } }
+failed-read : (r : Reading) → IsHead r → HoldsFew r → IsRead (failed r)
+failed-read r h few = record { head = keep-head r _ _ _ _ _ _ _ h; at = record { stands = keep-few r _ _ few; frames = tt } }
 
 both-true : (a b : Bool) → (a && b) ≡ true → (a ≡ true) × (b ≡ true)
 both-true true b e = (refl, e)
@@ -108,20 +108,20 @@ number-kept r n offset place h k p = record {
   last = sym (last_after-push 0 r.head n);
 }
 
-number-read : (b : Bool) (r : Reading) (n : ℕ) → IsHead r → HasNoRecords r → r.frames ≡ [] → r.known < 80 →
+number-read : (b : Bool) (r : Reading) (n : ℕ) → IsHead r → HoldsFew r → HasNoRecords r → r.frames ≡ [] → r.known < 80 →
     passes r.shape (row_at r.known).rule r.before n ≡ b → IsRead (kept_number b r (row_at r.known) n)
 unfolding kept_number
-number-read false r n h none no_frames k p = failed-read r h
-number-read true r n h none no_frames k p = record {
+number-read false r n h few none no_frames k p = failed-read r h few
+number-read true r n h few none no_frames k p = record {
   head = number-kept r n _ _ h k p;
   at = at-after_number _ (r.known + 1) refl (omega arith)
       (record { pages = none.pages; blocks = none.blocks; sectors = none.sectors }) no_frames;
 }
 
-moved_if-read : (b : Bool) (r : Reading) (place : Place) → IsHead r → (b ≡ true → IsAt place (moved r 4 place)) → IsRead (moved_if b r place)
+moved_if-read : (b : Bool) (r : Reading) (place : Place) → IsHead r → HoldsFew r → (b ≡ true → IsAt place (moved r 4 place)) → IsRead (moved_if b r place)
 unfolding moved_if
-moved_if-read false r place h f = failed-read r h
-moved_if-read true r place h f = record { head = keep-head r _ _ _ _ _ _ _ h; at = f refl }
+moved_if-read false r place h few f = failed-read r h few
+moved_if-read true r place h few f = record { head = keep-head r _ _ _ _ _ _ _ h; at = f refl }
 
 All-nothing : {X : Type 0} (P : X → Type 0) (xs : List X) → xs ≡ [] → All P xs
 All-nothing P xs e = λ k d h. absurd (omega (arith, h, ap length e))
@@ -207,11 +207,11 @@ mask-records r left page mask top h is =
     }
 
 -- a mask
-mask-read : (b : Bool) (r : Reading) (left page mask : ℕ) → IsHead r → page < r.shape.pages → HasRecords r page 0 0 → r.frames ≡ [] →
+mask-read : (b : Bool) (r : Reading) (left page mask : ℕ) → IsHead r → HoldsFew r → page < r.shape.pages → HasRecords r page 0 0 → r.frames ≡ [] →
     (mask == 0) ≡ b → IsRead (kept_mask b r left page mask)
 unfolding kept_mask
-mask-read true r left page mask h top records none is = failed-read r h
-mask-read false r left page mask h top records none is = record {
+mask-read true r left page mask h few top records none is = failed-read r h few
+mask-read false r left page mask h few top records none is = record {
   head = keep-head r _ _ _ _ _ _ _ h;
   at = record { stands = (top, mask-records r left page mask top records is); frames = none };
 }
@@ -236,11 +236,11 @@ at-after_block r left page (suc more) top h none = record {
   frames = none;
 }
 
-block-read : (b : Bool) (r : Reading) (left page more : ℕ) (block : List ℕ) → IsHead r → page < r.shape.pages →
+block-read : (b : Bool) (r : Reading) (left page more : ℕ) (block : List ℕ) → IsHead r → HoldsFew r → page < r.shape.pages →
     HasRecords r (page + 1) (more + 1) 0 → r.frames ≡ [] → is_zero block ≡ b → IsRead (kept_block b r left page more block)
 unfolding kept_block
-block-read true r left page more block h top records none is = failed-read r h
-block-read false r left page more block h top records none is = record {
+block-read true r left page more block h few top records none is = failed-read r h few
+block-read false r left page more block h few top records none is = record {
   head = keep-head r _ _ _ _ _ _ _ h;
   at = at-after_block _ left page more top (keep-records _ _ _ _ _ _ _ _ (block-records r (page + 1) more 0 block is records)) none;
 }
@@ -266,11 +266,11 @@ sector-records r sector bytes top is h = record {
       (not-zero (zero-when-full r bytes h.known e is));
 }
 
-sector-read : (b : Bool) (r : Reading) (left sector : ℕ) (bytes : List ℕ) → IsHead r → sector < r.shape.sectors →
+sector-read : (b : Bool) (r : Reading) (left sector : ℕ) (bytes : List ℕ) → IsHead r → HoldsFew r → sector < r.shape.sectors →
     HasRecords r r.shape.pages 0 sector → r.frames ≡ [] → (is_full r && is_zero bytes) ≡ b → IsRead (kept_sector b r left sector bytes)
 unfolding kept_sector
-sector-read true r left sector bytes h top records none is = failed-read r h
-sector-read false r left sector bytes h top records none is = record {
+sector-read true r left sector bytes h few top records none is = failed-read r h few
+sector-read false r left sector bytes h few top records none is = record {
   head = keep-head r _ _ _ _ _ _ _ h;
   at = at-sectors_due _ (has_frames r) left (sector + 1) refl
       (keep-records _ _ _ _ _ _ _ _ (sector-records r sector bytes top is records)) none;
@@ -318,12 +318,12 @@ closed-read r p at h s f = record {
   at = subst (λ (q : Place). IsAt q r) (sym at) (record { stands = s; frames = f });
 }
 
-judged_at-read : (p : Place) (r : Reading) (unit : List ℕ) → r.place ≡ p → IsHead r → StandsAt p r → FramesAt p r →
+judged_at-read : (p : Place) (r : Reading) (unit : List ℕ) → r.place ≡ p → IsHead r → HoldsFew r → StandsAt p r → FramesAt p r →
     length unit ≡ width_at p r.known → IsRead (judged_at p r unit)
-judged_at-read Head r unit at h s f wide = number-read _ r _ h s.1 f s.0 refl
-judged_at-read PageCount r unit at h s f wide = moved_if-read _ r _ h (λ (e : nat_le (number_spelled Four unit) r.shape.pages ≡ true).
+judged_at-read Head r unit at h few s f wide = number-read _ r _ h few s.1 f s.0 refl
+judged_at-read PageCount r unit at h few s f wide = moved_if-read _ r _ h few (λ (e : nat_le (number_spelled Four unit) r.shape.pages ≡ true).
     at-pages_due _ _ 0 (keep-records r _ _ _ _ _ 0 0 (no-records r s.0 s.1)) f)
-judged_at-read (PageIndex left from) r unit at h s f wide = moved_if-read _ r _ h (λ e.
+judged_at-read (PageIndex left from) r unit at h few s f wide = moved_if-read _ r _ h few (λ e.
     let tests : (nat_le from (number_spelled Four unit) ≡ true) × (nat_lt (number_spelled Four unit) r.shape.pages ≡ true) = both-true _ _ e in
     let below : number_spelled Four unit < r.shape.pages = lt-true _ _ tests.1 in
     record {
@@ -334,11 +334,11 @@ judged_at-read (PageIndex left from) r unit at h s f wide = moved_if-read _ r _ 
       );
       frames = f;
     })
-judged_at-read (PageMask left page) r unit at h s f wide = mask-read _ r left page _ h s.0 s.1 f refl
-judged_at-read (Block left page more) r unit at h s f wide = block-read _ r left page more unit h s.0 s.1 f refl
-judged_at-read SectorCount r unit at h s f wide =
-    moved_if-read _ r _ h (λ e. at-sectors_due _ (has_frames r) _ 0 refl (keep-records r _ _ _ _ _ 0 0 s) f)
-judged_at-read (SectorIndex left from) r unit at h s f wide = moved_if-read _ r _ h (λ e.
+judged_at-read (PageMask left page) r unit at h few s f wide = mask-read _ r left page _ h few s.0 s.1 f refl
+judged_at-read (Block left page more) r unit at h few s f wide = block-read _ r left page more unit h few s.0 s.1 f refl
+judged_at-read SectorCount r unit at h few s f wide =
+    moved_if-read _ r _ h few (λ e. at-sectors_due _ (has_frames r) _ 0 refl (keep-records r _ _ _ _ _ 0 0 s) f)
+judged_at-read (SectorIndex left from) r unit at h few s f wide = moved_if-read _ r _ h few (λ e.
     let tests : (nat_le from (number_spelled Four unit) ≡ true) × (nat_lt (number_spelled Four unit) r.shape.sectors ≡ true) = both-true _ _ e in
     let below : number_spelled Four unit < r.shape.sectors = lt-true _ _ tests.1 in
     record {
@@ -349,29 +349,28 @@ judged_at-read (SectorIndex left from) r unit at h s f wide = moved_if-read _ r 
       );
       frames = f;
     })
-judged_at-read (SectorBytes left sector) r unit at h s f wide = sector-read _ r left sector unit h s.0 s.1 f refl
-judged_at-read FrameCount r unit at h s f wide = moved_if-read _ r _ h (λ (e : nat_le (number_spelled Four unit) (most_frames r) ≡ true).
+judged_at-read (SectorBytes left sector) r unit at h few s f wide = sector-read _ r left sector unit h few s.0 s.1 f refl
+judged_at-read FrameCount r unit at h few s f wide = moved_if-read _ r _ h few (λ (e : nat_le (number_spelled Four unit) (most_frames r) ≡ true).
     at-frames_due _ (number_spelled Four unit) (keep-records r _ _ _ _ _ _ _ s)
     (keep-frames r _ _ _ _ (frame_count-frames r (number_spelled Four unit) f.0 f.1 (le-true _ _ e))))
-judged_at-read (FrameLength left) r unit at h s f wide = moved_if-read _ r _ h (λ e.
+judged_at-read (FrameLength left) r unit at h few s f wide = moved_if-read _ r _ h few (λ e.
     let tests : (nat_le 14 (number_spelled Four unit) ≡ true) × (nat_le (number_spelled Four unit) 1514 ≡ true) = both-true _ _ e in
     record {
       stands = keep-records r _ _ _ _ _ _ _ s;
       frames = ((le-true _ _ tests.0, le-true _ _ tests.1), keep-frames r _ _ _ _ f);
     })
-judged_at-read (FrameBytes left len) r unit at h s f wide = frame-read r left len unit h s f.0 f.1 wide
-judged_at-read Whole r unit at h s f wide = closed-read r Whole at h s f
-judged_at-read (Failed x) r unit at h s f wide = closed-read r (Failed x) at h s f
+judged_at-read (FrameBytes left len) r unit at h few s f wide = frame-read r left len unit h s f.0 f.1 wide
+judged_at-read Whole r unit at h few s f wide = closed-read r Whole at h s f
+judged_at-read (Failed x) r unit at h few s f wide = closed-read r (Failed x) at h s f
 
 judged-sound : (r : Reading) (unit : List ℕ) → length unit ≡ width_of r → IsSound r → IsSound (judged r unit)
 unfolding judged
 judged-sound r unit wide h =
-    let read : IsRead (judged_at r.place r unit) = judged_at-read r.place r unit refl h.head h.place h.frames wide in
+    let read : IsRead (judged_at r.place r unit) = judged_at-read r.place r unit refl h.head (few-at r.place r h.place h.frames) h.place h.frames wide in
     record {
       head = read.head;
       place = read.at.stands;
       frames = read.at.frames;
-      few = judged_at-few r.place r unit h.place h.frames wide h.few;
     }
 
 -- the bytes of a unit that has begun change nothing of what was read
@@ -384,7 +383,7 @@ began-stands r partial h = began r.place r partial h
     began (PageMask left page) r partial h = (h.0, keep-records r _ _ _ _ _ _ _ h.1)
     began (Block left page more) r partial h = (h.0, keep-records r _ _ _ _ _ _ _ h.1)
     began (SectorBytes left sector) r partial h = (h.0, keep-records r _ _ _ _ _ _ _ h.1)
-    began (Failed x) r partial h = tt
+    began (Failed x) r partial h = keep-few r _ _ h
     began other r partial h = keep-records r _ _ _ _ _ _ _ h
 
 began-frames : (p : Place) (r : Reading) (partial : List ℕ) → FramesAt p r → FramesAt p (record r { partial = partial })
@@ -408,7 +407,6 @@ fed_byte-sound r b h =
               head = keep-head r _ _ _ _ _ _ _ h.head;
               place = began-stands r _ h.place;
               frames = began-frames r.place r _ h.frames;
-              few = keep-few r _ _ _ _ _ _ h.few;
             }
           ] refl
     ]
@@ -423,11 +421,4 @@ begun-sound shape offset = record {
   head = record { known = refl; rows = omega arith; passes = tt; last = refl };
   place = (omega arith, record { pages = refl; blocks = refl; sectors = refl });
   frames = refl;
-  few = record {
-    pages = omega arith;
-    blocks = omega arith;
-    sectors = omega arith;
-    frames = omega arith;
-    each_frame = All-nothing IsFrame [] refl;
-  };
 }

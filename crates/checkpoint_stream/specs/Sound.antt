@@ -111,6 +111,14 @@ pub record HasRecords (r : Reading) (page_limit due sector_limit : ℕ) : Type 0
   pub sector_end : sector_limit ≤ r.shape.sectors
   pub full : slice_index r.head 4 ≡ 0 → All (λ s. IsTrue (not (is_zero s.bytes))) r.sectors
 
+-- what it holds of records and of frames, also where a unit broke its rule
+pub record HoldsFew (r : Reading) : Type 0 where
+  pub pages : length r.pages ≤ r.shape.pages
+  pub blocks : length r.blocks ≤ block_count r.pages
+  pub sectors : length r.sectors ≤ r.shape.sectors
+  pub frames : length r.frames ≤ 256
+  pub each_frame : All IsFrame r.frames
+
 -- what was read, by the unit that comes next
 abbrev pub StandsAt : Place → Reading → Type 0
 StandsAt Head r = (r.known < 80) × HasNoRecords r
@@ -125,7 +133,7 @@ StandsAt FrameCount r = HasRecords r r.shape.pages 0 r.shape.sectors
 StandsAt (FrameLength left) r = HasRecords r r.shape.pages 0 r.shape.sectors
 StandsAt (FrameBytes left len) r = HasRecords r r.shape.pages 0 r.shape.sectors
 StandsAt Whole r = HasRecords r r.shape.pages 0 r.shape.sectors
-StandsAt (Failed at) r = Unit {0}
+StandsAt (Failed at) r = HoldsFew r
 
 -- the frames that were read, where so many are still due
 pub record HasFrames (r : Reading) (due : ℕ) : Type 0 where
@@ -143,16 +151,7 @@ FramesAt Whole r = HasFrames r 0
 FramesAt (Failed at) r = Unit {0}
 FramesAt _ r = r.frames ≡ []
 
--- what the reader holds of records and of frames, also where a unit broke its rule
-pub record HoldsFew (r : Reading) : Type 0 where
-  pub pages : length r.pages ≤ r.shape.pages
-  pub blocks : length r.blocks ≤ block_count r.pages
-  pub sectors : length r.sectors ≤ r.shape.sectors
-  pub frames : length r.frames ≤ 256
-  pub each_frame : All IsFrame r.frames
-
 pub record IsSound (r : Reading) : Type 0 where
   pub head : IsHead r
   pub place : StandsAt r.place r
   pub frames : FramesAt r.place r
-  pub few : HoldsFew r
