@@ -9,6 +9,7 @@ pub mod ApartLemmas
 pub mod RunLemmas
 pub mod QuietLemmas
 pub mod OpLemmas
+pub mod WalkLemmas
 pub mod PaceLemmas
 pub mod CsrLemmas
 pub mod KeptLemmas

@@ -19,6 +19,7 @@ pub mod Pending
 pub mod Runs
 pub mod Step
 pub mod Stretches
+pub mod Walks
 -- what public clauses cite of lower crates
 pub use Rattle.arrayvec.specs.ArrayVec
 pub use Rattle.block_device.specs.Contents

@@ -27,6 +27,7 @@ mod machine;
 mod machine_state;
 mod op_steps;
 mod paces;
+mod page_ops;
 mod places;
 mod prepared_words;
 mod quick_steps;
