@@ -2,8 +2,8 @@
 takes as long as there are pages that the guest has written by then. So it may write so many more with each part of the text that is
 fetched; one that has written its part waits for the next part. A guest that writes less makes its steps as ever.
 
-A guest's disk may write nearly all its memory within one step (a burst), and no pace helps. The filling is then begun again, a few times:
-the next full checkpoint has what was written."""
+No pace helps where a burst comes: a guest's disk may write nearly all its memory within one step, and a guest that isn't paced, since the
+link takes nothing, as much. The filling is then begun again, a few times: the next full checkpoint has what was written."""
 from host.node import WRITTEN
 
 AT_ONCE = 256  # pages that it may write before any of the text is fetched
@@ -16,7 +16,7 @@ PATIENCE = 0.004  # after so many seconds without a step it is given
 FEW = 32  # steps
 STALLED = 0.05  # seconds without a part of the text that the link took
 BURST = BUDGET + MOST // STEPS_A_PAGE  # pages: above the budget by what only a disk writes within so few steps
-MOST_AGAIN = 3  # times that a filling is begun again, so that a guest whose disk does so without end is protected too
+MOST_AGAIN = 3  # times that a filling is begun again: then it goes on, so that each guest is protected in the end
 
 
 class Pace:
@@ -41,10 +41,6 @@ class Pace:
         more = written - self.written
         self.last, self.written = steps, written
         self.steps_a_page = steps / more if more > 0 else GROWTH * max(steps, 1)
-
-    @property
-    def is_burst(self):
-        return self.written - self.base > BURST
 
 
 class Pacer:
@@ -83,6 +79,9 @@ class Pacer:
         live = self.live
         if not self.is_counted:
             self.pace, self.is_counted = Pace(live.node.ask("show").number(WRITTEN)), True
+            if self.pace.written > BURST:
+                self.burst(self.pace.written, "while the link took nothing", now)
+                return
         part = live.sent / live.pending[0].total if live.sending == 0 else 1.0
         while due > 0 and not live.is_full and (steps := self.pace.steps(due, part, now - live.ran_at)) > 0:
             live.longest = max(live.longest, now - live.ran_at)
@@ -91,8 +90,8 @@ class Pacer:
             self.pace.made(live.steps - before, show.number(WRITTEN))
             due, now = due - steps, live.link.now()
             live.ran_at = now
-            if self.pace.is_burst:
-                self.burst(now)
+            if self.pace.written - self.pace.base > BURST:
+                self.burst(self.pace.written - self.pace.base, "at once, by its disk", now)
                 return
         self.tried_at = now
         left = now - live.guest_begun - (live.made + live.slice) / live.rate
@@ -100,14 +99,14 @@ class Pacer:
             live.skip(left)
             live.counts.paced += left
 
-    def burst(self, now):
-        """Begins the filling again, or, where that was done often enough or all of the text is fetched, lets it go on."""
-        live, log, again, pages = self.live, self.live.log, self.again, self.pace.written - self.pace.base
-        told = f"the guest's disk wrote {pages} pages of its memory at once while {live.standby[0]} was filled"
-        if again < MOST_AGAIN and not live.is_fetched:
+    def burst(self, pages, how, now):
+        """Begins the filling again, or, where that was done often enough or all of the text is fetched, lets it and the guest go on."""
+        log, standby, again = self.live.log, self.live.standby[0], self.again
+        told = f"{pages} pages of the guest's memory were written {how}, and {standby} isn't filled yet"
+        if again < MOST_AGAIN and not self.live.is_fetched:
             log.info(f"{told}: it is filled anew, {again + 1} of {MOST_AGAIN} times, so that the guest doesn't stand for them at a cut")
-            live.begin_again(now)
+            self.live.begin_again(now)
             self.again = again + 1
         else:
-            log.seldom("burst", "warning", f"{told}: it was filled anew {again} times, and the guest stands for them at the next cut")
-            self.pace = Pace(self.pace.written)
+            log.warning(f"{told}: it was filled anew {again} times, and now the guest stands for them at the next cut")
+            self.pace = None
