@@ -56,7 +56,7 @@ def text(host):
         float(live.longest) if live else 0.0)
     one("remus_failovers_total", "counter", "Times that a standby went live here.", counts.failovers)
     one("remus_attachments_total", "counter", "Standbys that were attached, or attachments of this one.", counts.attachments)
-    one("remus_begun_again_total", "counter", "Times that a standby's filling was begun again, since the guest's disk wrote much at once.",
+    one("remus_begun_again_total", "counter", "Times that a standby's filling was begun again, since the guest wrote much at once.",
         counts.begun_again)
     one("remus_links_total", "counter", "Links to the peer that came up.", counts.links)
     one("remus_node_memory_bytes", "gauge", "Memory of the node's process.", host.node.memory())
