@@ -52,9 +52,9 @@ def mutated(rng, data):
     return bytes(data)
 
 
-def any_message(rng):
-    """One of each kind, with what its body may be."""
-    session = rng.choice([bytes(16), SESSION, rng.randbytes(16)])
+def any_message(rng, session):
+    """One of each kind, with what its body may be, of that session or another."""
+    session = rng.choice([bytes(16), session, session, rng.randbytes(16)])
     number = lambda: rng.choice([0, 1, 2, rng.randrange(1000), 2**62 - 1, 2**62, 2**64 - 1])
     kind = rng.randrange(1, 12)
     if kind == messages.HELLO:
@@ -73,13 +73,13 @@ def any_message(rng):
     return messages.message(kind, session, rng.choice([b"", b"{}", b"[]", rng.randbytes(rng.randrange(60)), b"{" * 900]))
 
 
-def spoken(line, rng, most):
+def spoken(line, rng, most, session=SESSION):
     """Says messages over a connection until the other end has enough, or so many were said. Answers how many."""
     line.settimeout(2)
     count = 0
     try:
         while count < most:
-            message = any_message(rng)
+            message = any_message(rng, session)
             line.sendall(mutated(rng, message) if rng.random() < 0.5 else message)
             count += 1
             if rng.random() < 0.3:
@@ -93,7 +93,8 @@ def spoken(line, rng, most):
 
 
 def strangers(rng, port, count, context=None):
-    """Connections to a host that say nonsense; through TLS as the peer, where a context is given."""
+    """Connections to a host that say nonsense; through TLS as the peer, where a context is given. Answers how many messages it said, as
+    those below."""
     said = 0
     while said < count:
         with socket.create_connection(("127.0.0.1", port), timeout=PATIENCE) as tcp:
@@ -103,11 +104,12 @@ def strangers(rng, port, count, context=None):
                 line.close()
             except (ssl.SSLError, OSError):
                 said += 1
+    return said
 
 
-def false_standby(rng, port, count):
-    """A standby that attaches as it should, and then says nonsense."""
-    said = 0
+def false_standby(rng, port, count, gone=lambda: None):
+    """A standby that attaches as it should, and then says nonsense. `gone` is called once it has."""
+    said, session = 0, SESSION
     while said < count:
         with socket.create_connection(("127.0.0.1", port), timeout=PATIENCE) as line:
             try:
@@ -118,14 +120,16 @@ def false_standby(rng, port, count):
                     line.sendall(messages.message(messages.READY, session))
             except (OSError, IndexError):
                 pass
-            said += spoken(line, rng, 20)
+            said += spoken(line, rng, 20, session)
+        gone()
+    return said
 
 
 def false_live(rng, listener, count):
-    """A live host that offers an attachment as it should, and then says nonsense."""
-    said, listener_end = 0, time.monotonic() + 60
+    """A live host that offers an attachment as it should, and then says nonsense, each time that it is dialled."""
+    said = 0
     listener.settimeout(PATIENCE)
-    while said < count and time.monotonic() < listener_end:
+    while said < count:
         line, _ = listener.accept()
         with line:
             line.settimeout(1)
@@ -136,6 +140,7 @@ def false_live(rng, listener, count):
             except OSError:
                 pass
             said += spoken(line, rng, 40)
+    return said
 
 
 def lines(rng, path, count):
@@ -157,18 +162,20 @@ def lines(rng, path, count):
                     line.recv(1 << 16)
             except OSError:
                 said += 1
+    return said
 
 
 def play(room, count, seed):
-    """What is wrong after so many messages, or None."""
-    rng, room = random.Random(seed), Path(room)
+    """At least so many messages. Answers how many there were of which kind, and what is wrong, or None."""
+    rng, room, said = random.Random(seed), Path(room), {}
     plain, secret = room / "plain", room / "secret"
     for folder in (plain, secret):
         folder.mkdir()
-    return over_tls(rng, secret, count // 20) or over_plain(rng, plain, count - count // 20)
+    wrong = over_tls(rng, secret, count // 20, said) or over_plain(rng, plain, count - count // 20, said)
+    return said, wrong
 
 
-def over_tls(rng, room, count):
+def over_tls(rng, room, count, said):
     a, b = loopback_pair(room, COUNTER)
     asker = Asker(a, b)
     try:
@@ -181,18 +188,19 @@ def over_tls(rng, room, count):
         port = int(a.settings["listen"].rpartition(":")[2])
         context = ssl.SSLContext(ssl.PROTOCOL_TLS_CLIENT)
         context.check_hostname, context.verify_mode = False, ssl.CERT_NONE
-        strangers(rng, port, count // 4)
-        strangers(rng, port, count // 4, context)  # who has no certificate
+        said["before TLS"] = strangers(rng, port, count // 4)
+        said["without a certificate"] = strangers(rng, port, count // 4, context)
         context.load_cert_chain(b.settings["certificate"], b.settings["key"])
-        strangers(rng, port, count - count // 4 * 2, context)
+        said["over TLS"] = strangers(rng, port, count - count // 4 * 2, context)
         return what_is_wrong(a, b, session, asker, begun)
     finally:
         a.kill()
         b.kill()
 
 
-def over_plain(rng, room, count):
+def over_plain(rng, room, count, said):
     [other] = free_ports(1)
+    to_standby = count // 16  # which dials a few times a second
     a, b = loopback_pair(room, COUNTER, plain=True, link_ms=300)
     asker = Asker(a, b)
     try:
@@ -202,19 +210,19 @@ def over_plain(rng, room, count):
         session = protected(a, b)["session"]
         asker.start()
         asker.wait(3)
-        strangers(rng, int(a.settings["listen"].rpartition(":")[2]), count // 4)
-        false_standby(rng, int(a.settings["listen"].rpartition(":")[2]), 100)  # while there is one
-        lines(rng, a.control, count // 8)
-        lines(rng, b.control, count // 8)
+        port = int(a.settings["listen"].rpartition(":")[2])
+        said["by strangers"] = strangers(rng, port, count - count // 8 * 4 - to_standby)
+        said["by a second standby"] = false_standby(rng, port, count // 8)
+        said["control"] = lines(rng, a.control, count // 8) + lines(rng, b.control, count // 8)
         if wrong := what_is_wrong(a, b, session, asker, begun):
             return wrong
         b.kill()
         a.ask("alone")
-        false_standby(rng, int(a.settings["listen"].rpartition(":")[2]), count // 4)
+        said["by a standby"] = false_standby(rng, port, count // 8, lambda: a.ask("alone"))
         b.settings["peer"], kept = f"127.0.0.1:{other}", b.settings["peer"]
         with socket.create_server(("127.0.0.1", other)) as listener:
             b.start()
-            false_live(rng, listener, count - count // 4 * 2 - count // 8 * 2)
+            said["by a live host"] = false_live(rng, listener, to_standby)
         if (role := b.status()["role"]) == "live":
             return "a host went live by what a false one said"
         if role == "frozen":
@@ -249,8 +257,9 @@ def main():
     asked = reader.parse_args()
     with tempfile.TemporaryDirectory() as room:
         begun = time.monotonic()
-        wrong = play(room, asked.count, asked.seed)
-        print(f"{asked.count} messages in {time.monotonic() - begun:.0f} s: {wrong or 'right'}")
+        said, wrong = play(room, asked.count, asked.seed)
+        kinds = ", ".join(f"{count} {kind}" for kind, count in said.items())
+        print(f"{sum(said.values())} messages in {time.monotonic() - begun:.0f} s ({kinds}): {wrong or 'right'}")
     return wrong is not None
 
 

@@ -49,7 +49,7 @@ compile deflate --pages 16 --data 0x80001000
 compile ping lib/interrupts.s
 
 # Compiled as a guest of one's own is.
-for name in shout astray; do
+for name in shout astray bursts; do
     ./make --words ${LISTING:+--listing "$LISTING/$name.list"} "$name.c" >"$target/words"
     keep "words/$name.words"
 done

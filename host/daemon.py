@@ -76,13 +76,13 @@ class Daemon:
         """What is here is given up. The guest, where it was here, makes no step any more: its node is told nothing, and killed."""
         self.link.close()
         self.node.kill()
-        self.network.down()
         self.live = self.standby = self.life = self.shape = None
         self.instance = secrets.token_hex(8)
 
     def become_empty(self):
         """Gives up what is here, and starts a node that has nothing."""
         self.give_up()
+        self.network.down()  # for which the kernel may take some ten milliseconds
         self.node.close()
         self.node = Node(self.settings.node)
 

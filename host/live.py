@@ -325,6 +325,13 @@ class Live:
             self.acknowledge(self.generation, committed, now)
         self.sending, self.sent = next(iter(self.pending), self.cut + 1), 0
 
+    def begin_again(self, now):
+        """The filling is given up, before all of the text is sent, so that nobody can ever go live with it. The standby finds its link gone
+        and its attachment over, and comes for another one."""
+        self.counts.begun_again += 1
+        self.link.close()
+        self.alone(now)
+
     def alone(self, now):
         """The standby has stopped for good: all that is held is let out."""
         answer = self.node.ask("alone")

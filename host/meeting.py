@@ -87,7 +87,7 @@ class Meeting:
             return self.refuse(connection, "this host lives another life: what is held there is another guest")
         if hello["life"] == host.life and hello["role"] == "frozen" and hello["generation"] == host.generation:
             return self.refuse(connection, "two hosts have this guest, in one generation")
-        why = "that attachment is over"
+        why = "its filling begins again" if host.live.pacer.again else "that attachment is over"
         self.link.refuse(connection, messages.told(OVER, NO_SESSION, why=why, name=host.settings.name), f"{hello['name']}: {why}")
 
     def resume(self, connection, hello, now):

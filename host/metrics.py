@@ -9,7 +9,7 @@ class Counts:
         self.epochs = self.checkpoint_bytes = self.checkpoint_pages = self.commits = 0
         self.frames_in = self.frames_out = self.frames_dropped = 0
         self.paced = 0.0  # seconds
-        self.steps = self.failovers = self.attachments = self.links = self.dropped_messages = 0
+        self.steps = self.failovers = self.attachments = self.begun_again = self.links = self.dropped_messages = 0
         self.ack_counts, self.ack_sum = [0] * (len(BUCKETS) + 1), 0.0
 
     def acknowledged(self, seconds):
@@ -56,6 +56,8 @@ def text(host):
         float(live.longest) if live else 0.0)
     one("remus_failovers_total", "counter", "Times that a standby went live here.", counts.failovers)
     one("remus_attachments_total", "counter", "Standbys that were attached, or attachments of this one.", counts.attachments)
+    one("remus_begun_again_total", "counter", "Times that a standby's filling was begun again, since the guest wrote much at once.",
+        counts.begun_again)
     one("remus_links_total", "counter", "Links to the peer that came up.", counts.links)
     one("remus_node_memory_bytes", "gauge", "Memory of the node's process.", host.node.memory())
     one("remus_daemon_memory_bytes_max", "gauge", "The most memory that the daemon had.",

@@ -1,6 +1,9 @@
 """How many steps a guest is given while its standby is filled. Until the full checkpoint's text is fetched no epoch ends, and the first cut
 takes as long as there are pages that the guest has written by then. So it may write so many more with each part of the text that is
-fetched; one that has written its part waits for the next part. A guest that writes less makes its steps as ever."""
+fetched; one that has written its part waits for the next part. A guest that writes less makes its steps as ever.
+
+No pace helps where a burst comes: a guest's disk may write nearly all its memory within one step, and a guest that isn't paced, since the
+link takes nothing, as much. The filling is then begun again, a few times: the next full checkpoint has what was written."""
 from host.node import WRITTEN
 
 AT_ONCE = 256  # pages that it may write before any of the text is fetched
@@ -12,6 +15,8 @@ TRY_EVERY = 0.001  # seconds, of one that waits
 PATIENCE = 0.004  # after so many seconds without a step it is given
 FEW = 32  # steps
 STALLED = 0.05  # seconds without a part of the text that the link took
+BURST = BUDGET + MOST // STEPS_A_PAGE  # pages: above the budget by what only a disk writes within so few steps
+MOST_AGAIN = 3  # times that a filling is begun again: then it goes on, so that each guest is protected in the end
 
 
 class Pace:
@@ -46,12 +51,13 @@ class Pacer:
         self.live, self.pace = live, None
         self.is_counted = True  # whether what the pace knows to be written is all
         self.sent_at = self.tried_at = 0.0  # when a part of a text was sent, and the guest was to make steps
+        self.again = 0  # how often the filling was begun again
 
     def begin(self, now):
         self.pace, self.is_counted, self.sent_at, self.tried_at = Pace(), True, now, now
 
     def end(self):
-        self.pace = None
+        self.pace, self.again = None, 0
 
     def was_cut(self):
         if self.pace is not None:
@@ -73,15 +79,34 @@ class Pacer:
         live = self.live
         if not self.is_counted:
             self.pace, self.is_counted = Pace(live.node.ask("show").number(WRITTEN)), True
+            if self.pace.written > BURST:
+                self.burst(self.pace.written, "while the link took nothing", now)
+                return
         part = live.sent / live.pending[0].total if live.sending == 0 else 1.0
         while due > 0 and not live.is_full and (steps := self.pace.steps(due, part, now - live.ran_at)) > 0:
+            live.longest = max(live.longest, now - live.ran_at)
             before, (step, show) = live.steps, live.tell(b"step %d" % steps, b"show")
-            live.longest, live.ran_at = max(live.longest, now - live.ran_at), now
             live.stepped(step, now)
             self.pace.made(live.steps - before, show.number(WRITTEN))
             due, now = due - steps, live.link.now()
+            live.ran_at = now
+            if self.pace.written - self.pace.base > BURST:
+                self.burst(self.pace.written - self.pace.base, "at once, by its disk", now)
+                return
         self.tried_at = now
         left = now - live.guest_begun - (live.made + live.slice) / live.rate
         if self.is_held and left > 0:
             live.skip(left)
             live.counts.paced += left
+
+    def burst(self, pages, how, now):
+        """Begins the filling again, or, where that was done often enough or all of the text is fetched, lets it and the guest go on."""
+        log, standby, again = self.live.log, self.live.standby[0], self.again
+        told = f"{pages} pages of the guest's memory were written {how}, and {standby} isn't filled yet"
+        if again < MOST_AGAIN and not self.live.is_fetched:
+            log.info(f"{told}: it is filled anew, {again + 1} of {MOST_AGAIN} times, so that the guest doesn't stand for them at a cut")
+            self.live.begin_again(now)
+            self.again = again + 1
+        else:
+            log.warning(f"{told}: it was filled anew {again} times, and now the guest stands for them at the next cut")
+            self.pace = None
