@@ -29,7 +29,7 @@ use Rattle.pair_core.specs.Replication.{Does, Leads}
 use Rattle.pair_record.specs.laws.Windows.{frames_to-all}
 use Rattle.pair_core.specs.Lines.{Lines}
 use Rattle.pair_core.specs.laws.Along.{along-keeps}
-use Rattle.pair_core.proofs.{Ends.{Ends, answers_end}, Tells.OfGuest}
+use Rattle.pair_core.specs.laws.{Ends.{Ends, answers_end}, Tells.OfGuest}
 use Rattle.pair_record.specs.declared.event.Reply.TheVariants as replies
 use Rattle.failover.specs.Modes.{mode_filled}
 

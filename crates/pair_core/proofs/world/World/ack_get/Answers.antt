@@ -1,4 +1,4 @@
-use Rattle.std.proofs.{Common.{arith, ◌≡◌, ◌<◌, ◌∙◌, refl, sym, ap, false, Some}, lemmas.List.length-append}
+use Rattle.std.proofs.{Common.{arith, ◌≡◌, ◌<◌, ◌∙◌, sym, ap, false, Some}, lemmas.List.length-append}
 use Rattle.std.specs.Prelude.{slice_get}
 use Rattle.pair_history.specs.Landings.{landings}
 use Rattle.pair_record.specs.Protocol.{Outcome, first_refusal, ack_done, ack_outcome, ack_refusals, acknowledge_refusals, let_go}
@@ -8,7 +8,8 @@ use Rattle.pair_record.specs.Record.{ports_after_ack}
 use Rattle.pair_core.specs.internal.WorldFields.{pair_of}
 use Rattle.pair_history.specs.laws.Landings.{length-landings}
 use Rattle.pair_core.specs.laws.{Events.moved_to, ClientEvents.ack_holds, Lines.below_at}
-use Rattle.pair_core.proofs.{Calls.named, Outcomes.{goes, stops}}
+use Rattle.pair_core.specs.laws.Outcomes.{done_if_none_refuses, refused_by_the_first}
+use Rattle.pair_core.proofs.Calls.{named}
 use Rattle.pair_record.specs.laws.Tables.{acknowledge_free, acknowledge_as}
 use Rattle.pair_core.proofs.world.World.ack_get.Goals.{In-Some}
 use Rattle.pair_core.proofs.world.World.ack_get.Goals as goal
@@ -56,7 +57,7 @@ returns-in_default-why-clause-outcome c =
     let rows = ack_refusals w.ports.boxes w.protocol.state p in
     let first = named (acknowledge_refusals false w.ports.boxes w.protocol.state p) _ c.in-Err.why c.in_default-why.not-NoMemory c.in-Err.ensures.why in
     (λ i. (replies.Refused c.in-Err.why, c.in-Err.ensures.refused.0 i))
-    ∙ rw (← c.self.view_is) (seen at _ (stops w.protocol.state rows (ack_done w.ports.boxes w.protocol.state p.number) _ c.in-Err.why refl
+    ∙ rw (← c.self.view_is) (seen at _ (refused_by_the_first w.protocol.state rows (ack_done w.ports.boxes w.protocol.state p.number) c.in-Err.why
     (sym (table at) ∙ first)))
 
 -- it adds an entry for each frame that leaves
@@ -69,7 +70,7 @@ returns-clause-memory c =
     let at = (goal.at.returns-clause-memory c).In-Some in
     let leaving = let_go b r p.number in
     let why = rw c.in-NoMemory.is at c.in-Err.ensures.why in
-    let goes_on = seen at _ (goes r (ack_refusals b r p) (ack_done b r p.number) _ refl (sym (table at) ∙ why.0)) in
+    let goes_on = seen at _ (done_if_none_refuses r (ack_refusals b r p) (ack_done b r p.number) (sym (table at) ∙ why.0)) in
     let adds : AddsEntries r (ack_done b r p.number).1 =
     omega (arith, length-append r.journal.history (landings b leaving), length-landings b leaving, why.1) in
     rw (← c.self.view_is) (rw (← goes_on) adds)

@@ -8,7 +8,7 @@ use Rattle.pair_core.specs.internal.WorldFields.{pair_of}
 use Rattle.frame_ports.specs.Lands.{list_of}
 use Rattle.pair_core.specs.laws.{Events.moved_to, ClientEvents.{deliver_holds, refused_holds, after_refusal}}
 use Rattle.pair_core.proofs.Calls.{named_delivery}
-use Rattle.pair_core.proofs.Outcomes.{deliver_goes, deliver_stops, deliver_wants}
+use Rattle.pair_core.specs.laws.Outcomes.{delivery_is_done, delivery_is_refused, delivery_may_want}
 use Rattle.pair_core.proofs.world.World.deliver.Goals as goal
 
 pub invariant_of-self : goal.invariant_of-self
@@ -29,11 +29,11 @@ returns-in-Ok-clause-outcome c =
     let Out : Pair → Outcome = λ v. allowed v.start v.protocol.state None (Deliver c.args.client c.args.bytes) in
     let done = deliver_done w.protocol.state c.args.client (record { items = c.args.bytes.now }) w.ports.next in
     c.in-Ok.ensures.done
-    ∙ subst (λ (v : Pair). done ≡ Out v) c.self.view_is (deliver_goes w c.self.invariant c.args.client c.args.bytes.now c.in-Ok.ensures.free)
+    ∙ subst (λ (v : Pair). done ≡ Out v) c.self.view_is (delivery_is_done w c.self.invariant c.args.client c.args.bytes.now c.in-Ok.ensures.free)
 
 pub returns-clause-memory : goal.returns-clause-memory
 returns-clause-memory c =
-    rw (← c.self.view_is) (deliver_wants (pair_of c.self.inside) c.self.invariant c.args.client c.args.bytes.now
+    rw (← c.self.view_is) (delivery_may_want (pair_of c.self.inside) c.self.invariant c.args.client c.args.bytes.now
     (rw c.in-NoMemory.is at c.in-Err.ensures.why))
 
 pub invariant_of-self-in_default : goal.invariant_of-self-in_default
@@ -55,7 +55,7 @@ returns-in_default-clause-outcome c =
     c.args.client c.args.bytes.now) in
     let done = delivery_refused w.protocol.state c.args.client (record { items = c.args.bytes.now }) why in
     c.in-Err.ensures.refused
-    ∙ subst (λ (v : Pair). done ≡ Out v) c.self.view_is (deliver_stops w c.self.invariant c.args.client c.args.bytes.now why
+    ∙ subst (λ (v : Pair). done ≡ Out v) c.self.view_is (delivery_is_refused w c.self.invariant c.args.client c.args.bytes.now why
     (named_delivery rows why c.in_default.not-NoMemory c.in-Err.ensures.why))
 
 pub returns-in_default-clause-leaves : goal.returns-in_default-clause-leaves
