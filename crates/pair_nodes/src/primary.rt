@@ -1,9 +1,10 @@
 //! The primary: the machine, what waits for acknowledgement, and the numbers.
-ghost use Rattle.std.specs.Prelude.{◌≡◌, ◌≤◌, ◌*◌, [], All, IfOk, true, false, length, option_map, vec_capacity};
+ghost use Rattle.std.specs.Prelude.{◌≡◌, ◌≤◌, ◌+◌, ◌*◌, [], All, IfOk, true, false, length, option_map, vec_capacity};
 ghost use Rattle.frame_ports.specs.Addresses.{IsFrame};
 ghost use Rattle.frame_ports.specs.Limits.{number_limit};
 ghost use Rattle.guest_machine.specs.Guest.{sector_in};
 ghost use Rattle.guest_machine.specs.Limits.{page_bytes};
+ghost use Rattle.guest_machine.specs.Pages.{is_written, page_of};
 ghost use Rattle.output_gate.specs.Epochs.{frames_of};
 ghost use Rattle.pair_record.specs.Limits.{most_pending};
 ghost use Rattle.pair_record.specs.Modes.{is_alone};
@@ -193,6 +194,16 @@ impl PrimaryNode {
         ensures { result ≡ written_of self.now }
     {
         self.kept.machine().dirty_count()
+    }
+
+    /// A page of the guest's that doesn't count as written has the bytes that it had at the last cut, or, where there was none, where this
+    /// primary began: so none that changed is missing from [`written`](PrimaryNode::written). The guest has the page, as the caller knows.
+    pub fn an_unwritten_page_is_kept(&self, page: u32)
+        requires { page_bytes * page + page_bytes ≤ length self.now.primary.live.guest.ram }
+        ensures { is_written self.now.flags page ≡ false
+            → page_of self.now.primary.live.guest.ram page ≡ page_of self.now.primary.live.settled page }
+    {
+        let _written = self.kept.machine().dirty(page);
     }
 
     /// The bytes of a sector of the guest's disk, none beyond the disk.
