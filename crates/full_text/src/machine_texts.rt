@@ -9,7 +9,7 @@ ghost use Rattle.full_text.specs.Full.{AreIn, IsMadeTo, part_of, whole};
 ghost use Rattle.full_text.specs.MachineTexts.{IsKept, most_texts, settled_at};
 ghost use Rattle.full_text.specs.internal.TextFields.{FullFits, full_count, texts_of};
 
-use crate::rows::{drop_first, part_of, put_last};
+use crate::rows::{part_of, put_last};
 use crate::text::FullText;
 use guest_machine::{Frame, Machine};
 use memory_wanted::MemoryWanted;
@@ -153,7 +153,7 @@ impl MachineTexts {
     {
         if count > 0 {
             let behind = count - take_full(&mut self.full);
-            drop_first(&mut self.texts, behind);
+            self.texts.drain(..behind);
         }
     }
 

@@ -14,19 +14,6 @@ pub(crate) fn put_last(texts: &mut Vec<Vec<u8>>, text: Vec<u8>)
     }
 }
 
-/// Lets go of the first `count` texts.
-pub(crate) fn drop_first(texts: &mut Vec<Vec<u8>>, count: usize)
-    requires { count ≤ vec_len texts.old }
-    ensures items { texts.new.items ≡ drop count texts.old.items }
-    ensures room { vec_capacity texts.new ≡ vec_capacity texts.old }
-{
-    let rest = texts.len() - count;
-    if rest > 0 {
-        texts.rotate_left(count);
-    }
-    texts.truncate(rest);
-}
-
 /// Of a text the bytes from place `from` on, `count` of them or as many as there are.
 pub(crate) fn part_of(text: &[u8], from: u64, count: u64) -> &[u8]
     ensures { result.now ≡ part_of from count text.now }

@@ -1,11 +1,13 @@
--- From what a call of the record ensures of its result, to the invariant of the world.
-use Rattle.std.proofs.Common.{◌≡◌, ◌∙◌, refl, sym, ap, subst, List, Some, Result, Ok, Err, OnErr}
+-- From what a call of the record ensures of its result, to the invariant of the world and to what an event answers.
+use Rattle.std.proofs.Common.{◌≡◌, ◌∙◌, refl, sym, ap, subst, List, Some, Result, Ok, Err, OnErr, inl, inr}
 use Rattle.std.specs.Prelude.{IfOk, OnOk}
-use Rattle.memory_wanted.specs.declared.MemoryWanted.{MemoryWanted}
+use Rattle.memory_wanted.specs.{Wanted.wanted, declared.MemoryWanted.MemoryWanted}
 use Rattle.frame_ports.specs.Ports.{PortsState}
 use Rattle.pair_record.specs.{declared.event.Reply.Reply, Protocol.{Record, Outcome, Row, first_refusal, Refuses, RefusesDelivery}, Record.RecordState}
 use Rattle.pair_record.specs.{declared.event.Refusal.Refusal, declared.event.Refusal.TheVariants.NoMemory}
-use Rattle.pair_core.specs.{Invariant.Holds, Pair.Pair}
+use Rattle.pair_record.specs.{declared.event.Event.Event, Protocol.outcome}
+use Rattle.pair_record.specs.declared.event.Reply.TheVariants as replies
+use Rattle.pair_core.specs.{Answering.{AnswersEvent, MayWantMemory}, Invariant.Holds, Lines.{got, lines_after}, Pair.Pair}
 
 -- on either result
 pub on_ok : {A : Type 0} (o : Result A MemoryWanted) (P : Type 0) → P → OnOk o P
@@ -45,3 +47,28 @@ pub after_call : (w : Pair) → Holds w → (s : RecordState) (o : Result Reply 
 after_call w h s (Ok x) done ports k p e now =
     subst Holds (λ i. record w { protocol = record w.protocol { state = sym (ap (λ (q : Outcome). q.1) k) i }; ports = sym p i }) now
 after_call w h s (Err x) done ports k p e now = subst Holds (λ i. record w { protocol = record w.protocol { state = sym e.0 i }; ports = sym e.1 i }) h
+
+-- what an event did, as a reply
+module _ (old new : Pair) (event : Event) (o : Result Reply MemoryWanted) (reply : Reply)
+    (ok : IfOk o (λ r. reply ≡ r))
+    (err : OnErr o (reply ≡ replies.Refused (NoMemory wanted))) where
+  pub answers_by_outcome : IfOk o (λ r. (r, new.protocol.state)
+      ≡ outcome old.start old.protocol.state (got old.protocol.lines event) event)
+      → OnErr o (MayWantMemory old.protocol.state (outcome old.start old.protocol.state (got old.protocol.lines event) event))
+      → IfOk o (λ r. new.protocol.lines ≡ lines_after old.protocol r) → OnErr o (new ≡ old)
+      → AnswersEvent old.start old.protocol event reply new.protocol
+  answers_by_outcome = by_result o ok err
+    where
+      by_result : (o : Result Reply MemoryWanted) → IfOk o (λ r. reply ≡ r) → OnErr o (reply ≡ replies.Refused (NoMemory wanted))
+          → IfOk o (λ r. (r, new.protocol.state) ≡ outcome old.start old.protocol.state (got old.protocol.lines event) event)
+          → OnErr o (MayWantMemory old.protocol.state (outcome old.start old.protocol.state (got old.protocol.lines event) event))
+          → IfOk o (λ r. new.protocol.lines ≡ lines_after old.protocol r) → OnErr o (new ≡ old)
+          → AnswersEvent old.start old.protocol event reply new.protocol
+      by_result (Ok r) k e d m l f = (
+        inl (ap (λ (x : Reply). (x, new.protocol.state)) k ∙ d),
+        l ∙ ap (lines_after old.protocol) (sym k),
+      )
+      by_result (Err x) k e d m l f = (
+        inr (m, e, ap (λ (w : Pair). w.protocol.state) f),
+        ap (λ (w : Pair). w.protocol.lines) f ∙ ap (lines_after old.protocol) (sym e),
+      )

@@ -11,7 +11,8 @@ use Rattle.pair_core.specs.{Nodes.Nodes, Pair.{Pair, IsConsistent}}
 use Rattle.pair_core.specs.Replication.{to_come, number_after, next_number, KeepsBackup, Replicates, Does, Leads}
 use Rattle.pair_core.specs.Lines.{Lines}
 use Rattle.pair_core.specs.laws.Along.{along-keeps}
-use Rattle.pair_core.proofs.{Ends.{Ends, answers_end}, Generations.{place-more, next-same, refused_keeps}}
+use Rattle.pair_core.specs.laws.Ends.{Ends, answers_end}
+use Rattle.pair_core.proofs.Generations.{place-more, next-same, refused_keeps}
 use Rattle.pair_core.proofs.ReplicationLaws.{to_come-ends, length-ends}
 use Rattle.pair_core.proofs.ReplicationRuns.{does, place-last}
 use Rattle.pair_record.specs.declared.event.Reply.TheVariants as replies

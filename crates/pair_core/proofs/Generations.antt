@@ -12,7 +12,7 @@ use Rattle.pair_record.specs.Protocol.{Record, Outcome, refused}
 use Rattle.pair_core.specs.Replication.{to_come, number_after, next_number, NodesCut, IsCommit, KeepsBackup, Replicates}
 use Rattle.pair_record.specs.laws.Modes.{backup_goes, stop_goes}
 use Rattle.pair_core.specs.Lines.{Lines}
-use Rattle.pair_core.proofs.Ends.{Ends}
+use Rattle.pair_core.specs.laws.Ends.{Ends}
 use Rattle.pair_record.specs.declared.event.Reply.TheVariants as replies
 
 -- The places of the guests to come

@@ -12,7 +12,7 @@ use Rattle.pair_core.specs.{Answering.{AnswersEvent, AnswersIn}, Lines.{Lines, P
 use Rattle.pair_record.specs.Protocol.{Record, Outcome, allowed, outcome, or_else, first_refusal, refused, shown_at, outbox_of}
 use Rattle.pair_record.specs.Protocol.{fail_primary_done, fail_backup_refusals, fail_backup_done, go_live_refusals, go_live_done}
 use Rattle.pair_record.specs.Protocol.{protect_refusals, protect_done}
-use Rattle.pair_core.proofs.Ends.{Ends, by_table, outcome_ends}
+use Rattle.pair_core.specs.laws.Ends.{Ends, by_table, outcome_ends}
 use Rattle.std.specs.Prelude.{Ok}
 use Rattle.failover.specs.declared.change.Change.TheVariants as changes
 

@@ -11,14 +11,12 @@ use Rattle.pair_record.specs.declared.event.{Event.Event, Event.TheVariants.{Cut
 use Rattle.pair_record.specs.declared.event.Reply.TheVariants as replies
 use Rattle.pair_record.specs.Journal.{joined, kept_entries, first_of, rest_of}
 use Rattle.pair_record.specs.Modes.{is_alone}
-use Rattle.pair_core.specs.Lines.{packet, with_back}
 use Rattle.pair_core.specs.Nodes.{Nodes, Fills, with_sealed, with_commit, with_protected, read_as}
-use Rattle.pair_record.specs.Protocol.{cut_done, commit_done}
 use Rattle.pair_core.specs.Pair.{Pair, HasBackup, ImageFollows, InMode, shown_state, live_state}
 use Rattle.pair_record.specs.Record.{IsRecord, SuitsMode}
 use Rattle.pair_core.specs.Replication.{guests_of, to_come, number_after, next_number, NodesCut, IsCommit, IsProtected, Replicates}
 use Rattle.pair_core.specs.Texts.{IsText, AreTexts}
-use Rattle.pair_core.specs.laws.Nodes.{reads-as}
+use Rattle.pair_core.specs.laws.{Events.{after_cut, after_commit}, Nodes.reads-as}
 use Rattle.failover.specs.Modes.{mode_filled}
 
 -- the guests at the ends of epochs
@@ -92,18 +90,6 @@ filled-pairs Filling e = refl
 filled-pairs other e = refl
 
 -- CUT and COMMIT, from what holds of the backup before and after
-
-abbrev pub after_cut : Pair → List ℕ → Pair
-after_cut w text = record w { protocol = record w.protocol { state = (cut_done w.nodes.live.outbox w.protocol.state).1 }; nodes = with_sealed w.nodes text }
-
-abbrev pub after_commit : Pair → Pair
-after_commit w = record w {
-  protocol = record {
-    state = (commit_done w.protocol.state).1;
-    lines = with_back w.protocol.lines (packet w.protocol.state.generation w.protocol.state.window.to_commit);
-  };
-  nodes = with_commit w.nodes;
-}
 
 module _ (w : Pair) (k : IsRecord w.protocol.state) (two : is_alone w.protocol.state.mode ≡ false) (now : InMode w.protocol.state.mode w) where
   pub cut_replicates : (text : List ℕ) → InMode w.protocol.state.mode (after_cut w text) → (live_state w).guest ≡ w.nodes.live.guest

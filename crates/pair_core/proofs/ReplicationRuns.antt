@@ -6,7 +6,8 @@ use Rattle.pair_record.specs.{declared.event.Event.Event, declared.event.Event.T
 use Rattle.pair_record.specs.declared.event.Reply.{Reply}
 use Rattle.pair_core.specs.{Pair.Pair, Replication.{to_come, number_after, next_number, Awaits, Does, Leads}}
 use Rattle.pair_core.specs.laws.Along.{along-keeps}
-use Rattle.pair_core.proofs.{Ends.answers_end, Generations.{Goes, goes_all, next-same}}
+use Rattle.pair_core.specs.laws.Ends.{answers_end}
+use Rattle.pair_core.proofs.Generations.{Goes, goes_all, next-same}
 use Rattle.pair_record.specs.declared.event.Reply.TheVariants as replies
 
 -- what an event did to the generation and to the guests to come

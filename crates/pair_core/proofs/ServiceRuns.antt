@@ -1,23 +1,15 @@
 -- What whole runs are to the clients, from what each of their events is.
-use Rattle.std.proofs.Common.{◌≡◌, ℕ, suc, List, [], ◌∷◌, ◌++◌, sym, ap, ◌∙◌, subst, append_assoc, Option}
+use Rattle.std.proofs.Common.{◌≡◌, ℕ, suc, List, [], ◌∷◌, ◌++◌, ap, ◌∙◌, subst, append_assoc, Option}
 use Rattle.std.proofs.lemmas.List.{append-nil}
 use Rattle.std.specs.Prelude.{drop}
-use Rattle.pair_history.specs.{Entries.{Frame, Entry, Delivered, Refused, Took, Begins}, HistoryState.{HistoryState, after, at, Legal}}
+use Rattle.pair_history.specs.{Entries.{Frame, Entry, Delivered, Refused, Took}, HistoryState.{HistoryState, at, Legal}}
 use Rattle.pair_record.specs.{declared.event.Event.Event, declared.event.Event.TheVariants.{Deliver, Take, GoLive}}
 use Rattle.pair_core.specs.Calls.{Moment, ahead_of}
 use Rattle.pair_record.specs.{declared.event.Refusal.TheVariants.Full, declared.event.Reply.Reply}
 use Rattle.pair_core.specs.Service.{Serves, HasServed, LetsIn, HasEntered, IsDelivery, Point, IsTold, IsResumed}
-use Rattle.pair_core.specs.laws.Along.{along-keeps, along-tells}
-use Rattle.pair_core.proofs.PublicLaws.{Begins-trans}
+use Rattle.pair_core.specs.laws.{Along.along-tells, Serves.served_grows}
+use Rattle.pair_history.specs.laws.Histories.{legal-second}
 use Rattle.pair_record.specs.declared.event.Reply.TheVariants as replies
-
--- the history only grows
-pub served_grows : (start : HistoryState) (old new : Moment) (events : List Event) (answers : List Reply)
-    → HasServed start old events answers new → Begins old.history new.history
-served_grows start old new events answers run =
-    along-keeps (Serves start) (λ m. Begins old.history m.history)
-    (λ event reply m n one begins. Begins-trans old.history m.history n.history begins (one.added, one.grows))
-    events answers old new run ([], sym (append-nil old.history))
 
 -- what enters it along a run is what each event lets in
 pub has_entered : (start : HistoryState) (old new : Moment) (events : List Event) (answers : List Reply)
@@ -25,10 +17,6 @@ pub has_entered : (start : HistoryState) (old new : Moment) (events : List Event
 has_entered start old new events answers run =
     along-tells (Serves start) LetsIn
     (λ event reply m n one. record { added = one.added; grows = one.grows; enters = one.enters }) events answers old new run
-
-Legal-back : (s : HistoryState) (es fs : List Entry) → Legal s (es ++ fs) → Legal (at s es) fs
-Legal-back s [] fs p = p
-Legal-back s (e ∷ es) fs p = Legal-back (after s e) es fs p.1
 
 module _ (start : HistoryState) (old new : Moment) (events : List Event) (answers : List Reply) where
   -- the entry that tells of a call stands where the call was made, in a state that allows it
@@ -42,7 +30,7 @@ module _ (start : HistoryState) (old new : Moment) (events : List Event) (answer
       subst (Legal start) (ap (λ t. t ++ ahead) grows ∙ append_assoc es (x ∷ []) ahead) p.here.legal in
       record {
         told = grows;
-        allowed = (Legal-back start es (x ∷ ahead) legal).0;
+        allowed = (legal-second start es (x ∷ ahead) legal).0;
         stays = served_grows start p.done new (drop (suc k) events) (drop (suc k) answers) p.from;
       }
 

@@ -1,5 +1,5 @@
 //! The pair as one value, and what each event does to it.
-ghost use Rattle.std.specs.Prelude.{◌≡◌, ℕ, ◌+◌, ◌*◌, ◌≤◌, ◌<◌, length, IfOk, IfErr, IfSome, IfNone, OnErr, None, true, false, slice_get};
+ghost use Rattle.std.specs.Prelude.{◌≡◌, ℕ, ◌+◌, ◌*◌, ◌≤◌, ◌<◌, length, IfOk, IfErr, IfSome, IfNone, OnErr, None, true, false, slice_get, ◌≢◌};
 ghost use Rattle.memory_wanted.specs.Wanted.{wanted};
 
 mod clients;
@@ -269,6 +269,18 @@ impl World {
     }
 }
 
+/// A refusal of an event's table; that for want of memory is an error by itself.
+fn by_table(why: Refusal) -> Result<Refusal, MemoryWanted>
+    ensures same { IfOk result (λ refusal. refusal ≡ why) }
+    ensures other { IfOk result (λ refusal. (m : MemoryWanted) → why ≢ Refusal.NoMemory m) }
+    ensures memory { IfErr result (λ m. why ≡ Refusal.NoMemory m) }
+{
+    match why {
+        Refusal::NoMemory(wanted) => Err(wanted),
+        why => Ok(why),
+    }
+}
+
 /// Want of memory is a refusal like the others.
 fn answered(outcome: Result<Reply, MemoryWanted>) -> Reply
     ensures ok { IfOk outcome (λ reply. result ≡ reply) }
@@ -392,11 +404,8 @@ impl World {
                     landed,
                 });
             }
-            Err(why) => why,
+            Err(why) => by_table(why)?,
         };
-        let Refusal::NoMemory(wanted) = why else {
-            return Ok(Reply::Refused(why));
-        };
-        Err(wanted)
+        Ok(Reply::Refused(why))
     }
 }

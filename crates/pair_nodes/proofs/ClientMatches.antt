@@ -19,7 +19,7 @@ use Rattle.pair_record.specs.ClientActs.{if_there}
 use Rattle.pair_core.specs.{Invariant.Holds, Lines.{got, lines_after}, Nodes.with_arrival, Pair.Pair}
 use Rattle.pair_core.specs.laws.{AllLands.admitted_holds, ClientEvents.{take_holds, lose_in_holds, lose_out_holds, deliver_holds}}
 use Rattle.pair_core.specs.laws.ClientEvents.{full_holds}
-use Rattle.pair_core.proofs.{LossOutcomes.{lose_in_sight, lose_out_sight, loss_goes}, Outcomes.{admit_goes, goes, deliver_goes, deliver_stops}}
+use Rattle.pair_core.specs.laws.{Losses.{lose_in_sees_the_pair, lose_out_sees_the_pair, loss_is_done}, Outcomes.{admit_is_done, delivery_is_done, delivery_is_refused, done_if_none_refuses}}
 use Rattle.pair_nodes.specs.Matching.{Fits, HasRoom, Kept, Matches, IsServed, network_of, site_of}
 use Rattle.pair_history.specs.HistoryState.{HistoryState, sent_along}
 use Rattle.pair_nodes.proofs.Outs.{come-frames, quiet-frames}
@@ -138,7 +138,7 @@ module _ (w : Pair) (kept texts : List (List ℕ)) (acks : List Packet) (out : O
       told_served w kept texts acks out came h (Took c first ∷ []) (ports_after_take w.ports c) (λ s. refl) refl
       (length-set w.ports.boxes (c - 1) (drop 1 (list_of w.ports.boxes c))) (take_holds w h.pair.holds c low high) (Take c) done.0
       (in_mode w (Take c) None done refl
-      (goes r (take_refusals false (length w.ports.boxes) r c) done None (sym free) refl
+      (done_if_none_refuses r (take_refusals false (length w.ports.boxes) r c) done free
       ∙ ap (λ b. unless r (take_refusals false (length b) r c) (take_done b r c)) h.pair.holds.accords.clients.boxes))
       refl refl
 
@@ -159,7 +159,7 @@ module _ (w : Pair) (kept texts : List (List ℕ)) (acks : List Packet) (out : O
       (LoseOut c place) done.0
       (in_mode w (LoseOut c place) None done refl
       (ap (loss_of r) (sym some)
-      ∙ loss_goes w (LoseOut c place) c (lost_out c (list_of w.ports.boxes c) place) (lose_out_sight w h.pair.holds c place)
+      ∙ loss_is_done w (LoseOut c place) c (lost_out c (list_of w.ports.boxes c) place) (lose_out_sees_the_pair w h.pair.holds c place)
       (no_row (lost_out c (list_of w.ports.boxes c) place) e some)))
       refl refl
 
@@ -175,7 +175,7 @@ module _ (w : Pair) (kept texts : List (List ℕ)) (acks : List Packet) (out : O
       (LoseIn c place) done.0
       (in_mode w (LoseIn c place) None done refl
       (ap (loss_of r) (sym some)
-      ∙ loss_goes w (LoseIn c place) c (lost_in (list_of w.ports.inboxes c) place) (lose_in_sight w h.pair.holds c place)
+      ∙ loss_is_done w (LoseIn c place) c (lost_in (list_of w.ports.inboxes c) place) (lose_in_sees_the_pair w h.pair.holds c place)
       (no_row (lost_in (list_of w.ports.inboxes c) place) e some)))
       refl refl
 
@@ -198,7 +198,7 @@ module _ (w : Pair) (kept texts : List (List ℕ)) (acks : List Packet) (out : O
         (cond (lt-leb inbox_frames (length inbox) few i) (Some Full) (cond (lt-leb number_limit w.ports.next last i) (Some Exhausted) None)))) in
         told_served w kept texts acks out came h (Delivered c f w.ports.next ∷ []) (after_delivery w.ports c bytes) (λ s. refl) refl refl
         (deliver_holds w h.pair.holds c low high bytes frame) (Deliver c given) done.0
-        (in_mode w (Deliver c given) None done refl (deliver_goes w h.pair.holds c bytes row))
+        (in_mode w (Deliver c given) None done refl (delivery_is_done w h.pair.holds c bytes row))
         refl refl
 
     pub overflow_served : inbox_frames ≤ length (list_of w.ports.inboxes c) → IsServed w 1 (calls_by (site_of w kept texts acks out came) (overflows c given)) (site_of w kept texts acks out came)
@@ -211,7 +211,7 @@ module _ (w : Pair) (kept texts : List (List ℕ)) (acks : List Packet) (out : O
         (cond (le-leb inbox_frames (length inbox) many i) (Some Full) (cond (nat_le number_limit w.ports.next) (Some Exhausted) None)))) in
         told_served w kept texts acks out came h (entries.Refused c f ∷ []) w.ports (λ s. refl) refl refl
         (full_holds w h.pair.holds c low high bytes frame many) (Deliver c given) done.0
-        (in_mode w (Deliver c given) None done refl (deliver_stops w h.pair.holds c bytes Full row))
+        (in_mode w (Deliver c given) None done refl (delivery_is_refused w h.pair.holds c bytes Full row))
         refl refl
 
 -- AN ARRIVAL
@@ -268,7 +268,7 @@ module _ (w : Pair) (kept texts : List (List ℕ)) (acks : List Packet) (out : O
         run =
             one_event w come (Admit c) done.0 h.pair come_kept refl (
               inl (in_mode w (Admit c) None done refl
-                  (admit_goes w h.pair.holds c None nobody refl (λ e. absurd (none_first inbox n f first e)) None row n f first refl)),
+                  (admit_is_done w h.pair.holds c None nobody refl (λ e. absurd (none_first inbox n f first e)) None row n f first refl)),
               refl,
             );
         matches = matches_so (come_site (site_of w kept texts acks out came) c f) come kept texts acks out came refl come_fits;

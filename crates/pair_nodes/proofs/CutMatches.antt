@@ -9,7 +9,7 @@ use Rattle.pair_record.specs.{Accords.all_moves, Modes.{is_alone, is_stopped}, W
 use Rattle.pair_record.specs.Protocol.{cut_refusals}
 use Rattle.pair_record.specs.laws.Windows.{within}
 use Rattle.pair_core.specs.Pair.{Pair, shown_state}
-use Rattle.pair_core.proofs.ReplicationLaws.{after_cut}
+use Rattle.pair_core.specs.laws.Events.{after_cut}
 use Rattle.pair_nodes.specs.Matching.{Fits, HasRoom, Matches, IsServed, held_of, sent_of, site_of, primary_of}
 use Rattle.pair_nodes.specs.Sides.{IsDelta}
 use Rattle.pair_nodes.specs.Networks.{Output}

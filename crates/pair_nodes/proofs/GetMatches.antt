@@ -12,7 +12,7 @@ use Rattle.pair_record.specs.Window.{with_commit as with_commit_window}
 use Rattle.pair_record.specs.laws.{Tables.{passed, same_generation}, Modes.filled_alone}
 use Rattle.pair_core.specs.{Lines.{packet}, Nodes.{read_as, first_text, later_texts}, Pair.Pair}
 use Rattle.pair_core.specs.laws.Lines.{below_at}
-use Rattle.pair_core.proofs.ReplicationLaws.{after_commit}
+use Rattle.pair_core.specs.laws.Events.{after_commit}
 use Rattle.pair_nodes.specs.Matching.{Fits, HasRoom, HaveNames, Matches, IsServed, site_of, standby_of, WasSent}
 use Rattle.pair_nodes.specs.{Sides.{to_commit, get_rows}, StandbyCalls.commit_rows}
 use Rattle.checkpoint_stream.specs.Readings.{Reading, begun, fed}

@@ -16,7 +16,7 @@ use Rattle.std.proofs.lemmas.Bool.{lt-leb}
 use Rattle.std.proofs.lemmas.List.{length-take-le, take-append-drop}
 use Rattle.pair_core.specs.{Pair.{Pair, shown_state}}
 use Rattle.pair_core.specs.laws.{ClientEvents.ack_holds, Lines.below_at}
-use Rattle.pair_core.proofs.Outcomes.{goes}
+use Rattle.pair_core.specs.laws.Outcomes.{done_if_none_refuses}
 use Rattle.pair_nodes.specs.Matching.{AreNumberedFrom, HaveNames, Fits, Kept, Matches, IsServed, HasRoom, site_of, WasAcknowledged}
 use Rattle.pair_nodes.specs.Networks.{Output, with_out}
 use Rattle.pair_nodes.specs.Runs.{Premises, adds}
@@ -138,7 +138,7 @@ module _ (w : Pair) (kept texts : List (List ℕ)) (acks : List Packet) (out : O
         run =
             one_event w v (AckGet was.0) done.0 k hear_kept refl (
               inl (in_mode w (AckGet was.0) (slice_get w.protocol.lines.back was.0) done (both_go r.mode runs two)
-                  (goes r (ack_refusals w.ports.boxes r p) done None (sym free) refl
+                  (done_if_none_refuses r (ack_refusals w.ports.boxes r p) done free
                   ∙ ap (λ b. ack_outcome b r (Some p)) k.holds.accords.clients.boxes
                   ∙ ap (ack_outcome (shown_state w).boxes r) (sym was.1))),
               refl,

@@ -15,7 +15,7 @@ use Rattle.pair_record.specs.laws.{Owed.brought_ports, Live.length-live, Records
 use Rattle.std.proofs.{Math.Seq.drop-nil, lemmas.Bool.lt-leb}
 use Rattle.pair_core.specs.{Kept.first_kept, Lines.packet, Nodes.gone_live, Pair.{Pair, shown_state}}
 use Rattle.pair_core.specs.laws.{GoneLive.gone_live_holds, Kept.keeps_brings}
-use Rattle.pair_core.proofs.Outcomes.{goes}
+use Rattle.pair_core.specs.laws.Outcomes.{done_if_none_refuses}
 use Rattle.pair_nodes.specs.Matching.{CanGoLive, Fits, HasRoom, Kept, Matches, IsServed, network_of, site_of, primary_of, standby_of}
 use Rattle.frame_ports.specs.laws.Addresses.{targets_of-clients}
 use Rattle.checkpoint_stream.specs.Readings.{begun}
@@ -138,7 +138,7 @@ module _ (w : Pair) (kept texts : List (List ℕ)) (acks : List Packet) (out : O
       (go_live_done (shown_at w.start w.protocol.state).boxes (shown_at w.start w.protocol.state).out steps w.protocol.state)
   seen =
       let a = h.pair.holds.accords in
-      goes r (go_live_refusals w.ports.boxes (owed_to r w.ports) r) done None (sym free) refl
+      done_if_none_refuses r (go_live_refusals w.ports.boxes (owed_to r w.ports) r) done free
       ∙ (λ i. unless r (go_live_refusals (a.clients.boxes i) (sym a.owed i) r) (go_live_done (a.clients.boxes i) (sym a.owed i) steps r))
 
   next-is : to_commit (standby_of w came) ≡ w.protocol.state.window.to_commit

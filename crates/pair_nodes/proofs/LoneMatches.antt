@@ -20,7 +20,7 @@ use Rattle.pair_history.specs.laws.Landings.{length-landings}
 use Rattle.pair_record.specs.laws.Numbers.{landed_ports, lone_numbers}
 use Rattle.pair_record.specs.laws.Records.{history_record}
 use Rattle.pair_core.specs.{Pair.Pair, Invariant.KeepsNothing}
-use Rattle.pair_core.proofs.AloneRuns.{after_alone, alone_holds, alone_answered}
+use Rattle.pair_core.specs.laws.LoneSteps.{after_lone_steps, lone_steps_hold, lone_steps_answered}
 use Rattle.pair_core.specs.laws.Consistent.{alone_is, keeps_nothing}
 use Rattle.pair_nodes.specs.Matching.{Fits, HasRoom, Kept, Matches, IsServed, site_of}
 use Rattle.pair_nodes.specs.Networks.{Network, Output, with_frames, with_out}
@@ -48,7 +48,7 @@ module _ (w : Pair) (kept texts : List (List ℕ)) (acks : List Packet) (out : O
   fs = sent_in 1 w.nodes.live.guest
 
   abbrev v : Pair
-  v = after_alone w 1 (sent_in 1 w.nodes.live.guest)
+  v = after_lone_steps w 1 (sent_in 1 w.nodes.live.guest)
 
   numbers_left : frames_run_out w.protocol.state ≡ false
   numbers_left = grind (arith, nat_tests, numbers)
@@ -65,7 +65,7 @@ module _ (w : Pair) (kept texts : List (List ℕ)) (acks : List Packet) (out : O
       let r = w.protocol.state in
       let first = r.next_frame in
       record {
-        holds = alone_holds w k.holds nothing lone 1;
+        holds = lone_steps_hold w k.holds nothing lone 1;
         record_is =
             history_record r k.record_is (replicate 1 Ran ++ landings w.ports.boxes (targets_of (length w.ports.boxes) fs)) (r.next_frame + length fs);
         numbered = lone_numbers r w.ports k.numbered v.protocol.state.journal fs few numbers_left nothing.2;
@@ -90,7 +90,7 @@ module _ (w : Pair) (kept texts : List (List ℕ)) (acks : List Packet) (out : O
   pub step_served : IsServed w (1 + copies (site_of w kept texts acks out came) (sent_in 1 w.nodes.live.guest)) []
       (lone_site 1 (site_of w kept texts acks out came))
   step_served =
-      let answer = inl (alone_answered w h.pair.holds nothing lone 1 (none-yet w.nodes.live.guest) room numbers_left) in
+      let answer = inl (lone_steps_answered w h.pair.holds nothing lone 1 (none-yet w.nodes.live.guest) room numbers_left) in
       let k = (after_steps 1 w.nodes.live.guest).steps in
       record {
         events = replicate (length (all_made w v h.pair lone_kept refl 1 k answer).made) Step;

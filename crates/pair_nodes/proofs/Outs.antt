@@ -20,7 +20,7 @@ use Rattle.pair_record.specs.laws.{Accords.{kept_is, next_epoch}, Windows.{commi
 use Rattle.std.proofs.Math.Seq.{take-nil}
 use Rattle.pair_core.specs.{Invariant.{Holds, KeepsNothing}, Pair.{Pair, shown_state}}
 use Rattle.pair_core.specs.laws.Consistent.{live_is}
-use Rattle.pair_core.proofs.ReplicationLaws.{after_commit}
+use Rattle.pair_core.specs.laws.Events.{after_commit}
 use Rattle.pair_nodes.specs.Frames.{AreOut}
 use Rattle.pair_nodes.specs.Matching.{Kept, held_of, sent_of}
 use Rattle.pair_nodes.specs.Networks.{Output, Turn, frames_in, with_out, with_next}

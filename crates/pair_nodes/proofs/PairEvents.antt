@@ -16,17 +16,17 @@ use Rattle.pair_record.specs.laws.{Records.{cut_record, commit_record}, Numbers.
 use Rattle.pair_core.specs.{Answering.AnswersEvent, Lines.{packet, packet_of, with_forward, with_back, got}, Nodes.{HasShape, machine_of}}
 use Rattle.pair_core.specs.{Pair.Pair, Service.{Serves, HasServed, moment}, Texts.IsText}
 use Rattle.pair_core.specs.laws.Consistent.{consistent}
-use Rattle.pair_core.proofs.{PublicLaws.answers_drop, ServiceLaws.serves, ReplicationLaws.{after_cut, after_commit}}
-use Rattle.pair_core.specs.laws.{Events.{cut_holds, commit_holds, lines_hold}, Lines.{named-sent, named-back}}
-use Rattle.pair_core.proofs.Outcomes.{goes, cut_sight}
+use Rattle.pair_core.specs.laws.{Drops.answers_drop_what_they_may, Serves.one_event_serves}
+use Rattle.pair_core.specs.laws.{Events.{after_cut, after_commit, cut_holds, commit_holds, lines_hold}, Lines.{named-sent, named-back}}
+use Rattle.pair_core.specs.laws.Outcomes.{done_if_none_refuses, cut_sees_the_pair}
 use Rattle.pair_nodes.specs.Matching.{Kept}
 
 -- an event that is answered as the protocol says serves the clients
 pub event_serves : (w v : Pair) (event : Event) (reply : Reply) → Kept w → Kept v → v.start ≡ w.start
     → AnswersEvent w.start w.protocol event reply v.protocol → Serves w.start (moment w) event reply (moment v)
 event_serves w v event reply k n same answers =
-    serves w v event reply same (consistent w k.holds k.record_is k.numbered) (consistent v n.holds n.record_is n.numbered)
-    (answers_drop w k.holds k.record_is event reply v.protocol answers)
+    one_event_serves w v event reply same (consistent w k.holds k.record_is k.numbered) (consistent v n.holds n.record_is n.numbered)
+    (answers_drop_what_they_may w k.holds k.record_is event reply v.protocol answers)
 
 -- so it is a run of one event
 pub one_event : (w v : Pair) (event : Event) (reply : Reply) → Kept w → Kept v → v.start ≡ w.start
@@ -74,7 +74,7 @@ module _ (w : Pair) (k : Kept w) (runs : is_stopped w.protocol.state.mode ≡ fa
   cut_answers =
       let r = w.protocol.state in
       let done = cut_done w.nodes.live.outbox r in
-      let is : done ≡ allowed w.start r None Cut = goes r (cut_refusals r) done None (sym free) refl ∙ cut_sight w k.holds in
+      let is : done ≡ allowed w.start r None Cut = done_if_none_refuses r (cut_refusals r) done free ∙ cut_sees_the_pair w k.holds in
       (inl (in_mode w Cut None done (both_go r.mode runs two) is), refl)
 
 -- SEND
@@ -106,7 +106,7 @@ module _ (w : Pair) (k : Kept w) (two : is_alone w.protocol.state.mode ≡ false
       → done ≡ outcome w.start w.protocol.state (got w.protocol.lines (BackupGet place)) (BackupGet place)
   get_answers done e =
       let r = w.protocol.state in
-      let is : done ≡ backup_outcome r (Some p) = sym e ∙ goes r (backup_refusals r p) (backup_done r p) None (sym free) refl in
+      let is : done ≡ backup_outcome r (Some p) = sym e ∙ done_if_none_refuses r (backup_refusals r p) (backup_done r p) free in
       in_mode w (BackupGet place) (got w.protocol.lines (BackupGet place)) done (standby_goes r.mode two)
       (is ∙ ap (λ (o : Option Packet). backup_outcome r o) (sym there))
 

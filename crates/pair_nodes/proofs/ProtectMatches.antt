@@ -14,7 +14,7 @@ use Rattle.pair_record.specs.laws.Records.{protect_record}
 use Rattle.std.proofs.lemmas.Bool.{lt-leb}
 use Rattle.pair_core.specs.{Lines.packet, Nodes.{left_alone, with_protected}, Pair.Pair}
 use Rattle.pair_core.specs.laws.{AllLands.all_landed_holds, Consistent.{keeps_nothing, some_cut}, Lines.below_at}
-use Rattle.pair_core.proofs.Outcomes.{fail_backup_sight, goes}
+use Rattle.pair_core.specs.laws.Outcomes.{done_if_none_refuses, fail_backup_sees_the_pair}
 use Rattle.pair_core.specs.laws.Protected.{protect_holds}
 use Rattle.pair_nodes.specs.Matching.{Fits, HasRoom, Kept, Matches, IsServed, held_of, sent_of, site_of, primary_of, standby_of}
 use Rattle.checkpoint_stream.specs.Readings.{begun}
@@ -96,7 +96,7 @@ module _ (w : Pair) (kept texts : List (List ℕ)) (acks : List Packet) (out : O
             let free : first_refusal (protect_refusals r) ≡ None =
             ap (λ (t : Bool). cond t (Some Exhausted) None) (lt-leb number_limit (r.generation + 1) last) in
             one_event w backed Protect done.0 h.pair protect_kept refl
-            (inl (in_mode w Protect None done none (goes r (protect_refusals r) done None (sym free) refl)), refl);
+            (inl (in_mode w Protect None done none (done_if_none_refuses r (protect_refusals r) done free)), refl);
         matches = matches_so (protect_site (site_of w kept texts acks out came) text) backed (text ∷ []) texts acks out []
             (λ i. record (protect_site (site_of w kept texts acks out came) text) {
               standby = record (standby_of backed []) { reading = sym (fed-none (begun w.nodes.image.shape 0)) i };
@@ -189,7 +189,7 @@ module _ (w : Pair) (kept texts : List (List ℕ)) (acks : List Packet) (out : O
             ap (λ (t : Bool). cond t (Some Exhausted) None) (lt-leb number_limit _ room) in
             one_event w left FailBackup done.0 h.pair alone_kept refl (
               inl (in_mode w FailBackup None done (both_fail r.mode runs two)
-                  (goes r (fail_backup_refusals w.ports.boxes outbox r) done None (sym free) refl ∙ fail_backup_sight w h.pair.holds)),
+                  (done_if_none_refuses r (fail_backup_refusals w.ports.boxes outbox r) done free ∙ fail_backup_sees_the_pair w h.pair.holds)),
               refl,
             );
         matches = matches_so (alone_site (site_of w kept texts acks out came)) left [] texts acks

@@ -10,8 +10,7 @@ use Rattle.guest_machine.specs.{declared.shapes.Shape.Shape}
 use Rattle.pair_history.specs.{HistoryState.{HistoryState, at, start_state}}
 use Rattle.pair_record.specs.{Modes.{is_alone}}
 use Rattle.pair_core.specs.{Calls.ahead_of, Pair.{Pair, InMode, IsConsistent, shown_state}, Service.{HasServed, moment}}
-use Rattle.pair_core.specs.laws.{Consistent.{consistent, lone}, Events.{start_pair, start_holds}}
-use Rattle.pair_core.proofs.ServiceRuns.{served_grows}
+use Rattle.pair_core.specs.laws.{Consistent.{consistent, lone}, Events.{start_pair, start_holds}, Serves.served_grows}
 use Rattle.pair_nodes.specs.Matching.{HasRoom, IsServed, Kept, Matches, held_of, site_of}
 use Rattle.pair_nodes.specs.Networks.{frames_in}
 use Rattle.std.proofs.lemmas.List.{take-append-drop}

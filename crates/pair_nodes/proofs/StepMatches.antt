@@ -7,7 +7,7 @@ use Rattle.pair_record.specs.declared.event.Reply.TheVariants as replies
 use Rattle.pair_record.specs.{Modes.{is_alone, is_stopped}}
 use Rattle.pair_core.specs.{Calls.Moment, Pair.Pair, Runs.{StepsAnswerIn, with_steps}, Service.{HasServed, ServesSteps, moment}}
 use Rattle.pair_core.specs.laws.Consistent.{consistent}
-use Rattle.pair_core.proofs.{StepRuns.{steps_hold, steps_answered}, StepsServed.serves_steps}
+use Rattle.pair_core.specs.laws.{Steps.{steps_hold, steps_answered}, StepsServed.steps_serve}
 use Rattle.pair_nodes.specs.Matching.{Fits, HasRoom, Kept, Matches, IsServed, site_of}
 use Rattle.pair_nodes.specs.Networks.{Output}
 use Rattle.pair_nodes.specs.Runs.{Premises}
@@ -21,7 +21,7 @@ module _ (w v : Pair) (k : Kept w) (n : Kept v) (same : v.start ≡ w.start) (co
     (answer : StepsAnswerIn w.start w.protocol.state count (replies.Steps steps) v.protocol.state) where
   pub all_made : ServesSteps w.start (moment w) count (replies.Steps steps) (moment v)
   all_made =
-      serves_steps w v count (replies.Steps steps) same (consistent w k.holds k.record_is k.numbered)
+      steps_serve w v count (replies.Steps steps) same (consistent w k.holds k.record_is k.numbered)
       (consistent v n.holds n.record_is n.numbered) answer
 
   pub steps_served : HasServed w.start (moment w) (replicate (length all_made.made) Step) all_made.made (moment v)

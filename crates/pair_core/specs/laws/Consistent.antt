@@ -13,7 +13,7 @@ use Rattle.pair_history.specs.laws.Moves.{moved, at-moves, sent_along-moves, Leg
 use Rattle.pair_record.specs.Accords.{all_moves, Accords}
 use Rattle.pair_core.specs.Invariant.{first_moves, AreSealed, IsBacked, Holds, KeepsNothing}
 use Rattle.pair_record.specs.{Journal.{joined, first_of, kept_entries}, Modes.is_alone}
-use Rattle.pair_core.specs.Pair.{Pair, shown_state, live_state, HasBackup, ImageFollows, RunsAlone, InMode, is_of_guest, IsConsistent}
+use Rattle.pair_core.specs.Pair.{Pair, shown_state, live_state, HasBackup, ImageFollows, RunsAlone, InMode, IsConsistent}
 use Rattle.pair_record.specs.Protocol.{outbox_of}
 use Rattle.pair_record.specs.Record.{IsRecord, AreNumbered, SuitsMode}
 use Rattle.pair_core.specs.Texts.{IsText, AreTexts}
@@ -21,7 +21,7 @@ use Rattle.pair_record.specs.Accords.{kept_now, left_now, sealed_now}
 use Rattle.pair_record.specs.laws.Accords.{live_guest, live_waiting as waits, sent_is, all_owed, kept_is}
 use Rattle.pair_record.specs.laws.Accords.{sealed_state}
 use Rattle.pair_core.specs.Kept.{kept_targets}
-use Rattle.pair_core.specs.laws.OnTheirWay.{on_its_way}
+use Rattle.pair_core.specs.laws.{OnTheirWay.on_its_way, Tells.OfGuest}
 
 -- the texts of epochs of moves are those of their entries
 texts_are : (shape : Shape) (generation n : ℕ) (s : HistoryState) (mss : List (List Move)) (rest : List Move) (texts : List (List ℕ))
@@ -41,13 +41,10 @@ texts_are shape generation n s (ms ∷ mss) rest (t ∷ texts) can h =
     )
 
 -- the guest does all moves
-abbrev IsOfGuest : Entry → Type 0
-IsOfGuest e = is_of_guest e ≡ true
-
-of_guest : (ms : List Move) → All IsOfGuest (entries_of ms)
-of_guest [] = All-nil IsOfGuest
-of_guest (Steps ∷ ms) = All-cons IsOfGuest Ran (entries_of ms) refl (of_guest ms)
-of_guest (Arrives n f ∷ ms) = All-cons IsOfGuest (Arrive n) (entries_of ms) refl (of_guest ms)
+pub of_guest : (ms : List Move) → All OfGuest (entries_of ms)
+of_guest [] = All-nil OfGuest
+of_guest (Steps ∷ ms) = All-cons OfGuest Ran (entries_of ms) refl (of_guest ms)
+of_guest (Arrives n f ∷ ms) = All-cons OfGuest (Arrive n) (entries_of ms) refl (of_guest ms)
 
 -- where a node is alone
 pub lone : (mode : Mode) (w : Pair) → is_alone mode ≡ true → InMode mode w → RunsAlone w

@@ -108,12 +108,15 @@ admit_stands w h c n f low high first = (
       (ports_after_admit w.ports c) w.nodes.image refl refl (risen-same w.ports (ports_after_admit w.ports c) refl refl) refl refl,
 )
 
--- CUT: the running epoch is sealed
+-- CUT: the running epoch is sealed, as this text
+
+abbrev pub after_cut : Pair → List ℕ → Pair
+after_cut w text = record w { protocol = record w.protocol { state = (cut_done w.nodes.live.outbox w.protocol.state).1 }; nodes = with_sealed w.nodes text }
 
 module _ (w : Pair) (h : Holds w) (k : IsRecord w.protocol.state) (numbered : AreNumbered w.protocol.state w.ports) (text : List ℕ)
     (is_text : (base : Guest) → IsBase (machine_of w.nodes.live) base → HasShape w.nodes.image.shape w.nodes.live.guest
     → IsText w.nodes.image.shape w.protocol.state.generation w.protocol.state.window.to_cut base w.nodes.live.guest w.nodes.live.outbox text) where
-  pub cut_holds : Holds (record w { protocol = record w.protocol { state = (cut_done w.nodes.live.outbox w.protocol.state).1 }; nodes = with_sealed w.nodes text })
+  pub cut_holds : Holds (after_cut w text)
   cut_holds =
       let s = shown_state w in
       let mss = h.accords.journal.sealed_moves in
@@ -186,21 +189,21 @@ module _ (w : Pair) (h : Holds w) (k : IsRecord w.protocol.state) (two : is_alon
 
 -- COMMIT: the oldest sealed epoch moves to the history, and the image takes its checkpoint in
 
+abbrev pub after_commit : Pair → Pair
+after_commit w = record w {
+  protocol = record {
+    state = (commit_done w.protocol.state).1;
+    lines = with_back w.protocol.lines (packet w.protocol.state.generation w.protocol.state.window.to_commit);
+  };
+  nodes = with_commit w.nodes;
+}
+
 module _ (w : Pair) (h : Holds w) (k : IsRecord w.protocol.state) (numbered : AreNumbered w.protocol.state w.ports)
     (two : is_alone w.protocol.state.mode ≡ false) where
-  abbrev pub after_commit : Pair
-  after_commit = record w {
-    protocol = record {
-      state = (commit_done w.protocol.state).1;
-      lines = with_back w.protocol.lines (packet w.protocol.state.generation w.protocol.state.window.to_commit);
-    };
-    nodes = with_commit w.nodes;
-  }
-
-  pub commit_holds : w.protocol.state.window.to_commit < w.protocol.state.window.to_cut → Holds after_commit
+  pub commit_holds : w.protocol.state.window.to_commit < w.protocol.state.window.to_cut → Holds (after_commit w)
   commit_holds more = by_lists h.accords.journal.sealed_moves refl (some_moves w.start w.protocol.state w.ports h.accords k more)
     where
-      by_lists : (sealed : List (List Move)) (p : h.accords.journal.sealed_moves ≡ sealed) → 0 < length sealed → Holds after_commit
+      by_lists : (sealed : List (List Move)) (p : h.accords.journal.sealed_moves ≡ sealed) → 0 < length sealed → Holds (after_commit w)
       by_lists [] p l = absurd (omega arith)
       by_lists (ms ∷ mss) p l =
           let r = w.protocol.state in

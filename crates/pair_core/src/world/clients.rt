@@ -6,9 +6,9 @@ ghost use Rattle.pair_record.specs.Record.{given};
 ghost use Rattle.pair_core.specs.Answering.{MayWantMemory};
 ghost use Rattle.pair_core.specs.Leaves.{Leaves};
 
-use super::{WORD_FULL, World};
+use super::{WORD_FULL, World, by_table};
 use memory_wanted::MemoryWanted;
-use pair_record::{Frame, Refusal, Reply};
+use pair_record::{Frame, Reply};
 
 impl World {
     /// The first frame of a client's inbox arrives at the guest.
@@ -46,12 +46,9 @@ impl World {
     {
         let why = match self.record.deliver(client, bytes, WORD_FULL) {
             Ok(number) => return Ok(Reply::Delivered(number)),
-            Err(why) => why,
+            Err(why) => by_table(why)?,
         };
-        let Refusal::NoMemory(wanted) = why else {
-            return Ok(Reply::Refused(why));
-        };
-        Err(wanted)
+        Ok(Reply::Refused(why))
     }
 
     /// A client takes the first frame of its box.
@@ -66,12 +63,9 @@ impl World {
         let mut frame = Frame::new();
         let why = match self.record.take(client, &mut frame, WORD_FULL) {
             Ok(is_some) => return Ok(Reply::Took(taken(is_some, frame))),
-            Err(why) => why,
+            Err(why) => by_table(why)?,
         };
-        let Refusal::NoMemory(wanted) = why else {
-            return Ok(Reply::Refused(why));
-        };
-        Err(wanted)
+        Ok(Reply::Refused(why))
     }
 }
 

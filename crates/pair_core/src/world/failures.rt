@@ -6,9 +6,9 @@ ghost use Rattle.pair_record.specs.Protocol.{allowed};
 ghost use Rattle.pair_core.specs.Answering.{MayWantMemory};
 ghost use Rattle.pair_core.specs.Leaves.{Leaves};
 
-use super::World;
+use super::{World, by_table};
 use memory_wanted::MemoryWanted;
-use pair_record::{Refusal, Reply};
+use pair_record::Reply;
 
 impl World {
     /// The primary stops.
@@ -36,12 +36,9 @@ impl World {
                 self.nodes.leave_alone();
                 return Ok(reply);
             }
-            Err(why) => why,
+            Err(why) => by_table(why)?,
         };
-        let Refusal::NoMemory(wanted) = why else {
-            return Ok(Reply::Refused(why));
-        };
-        Err(wanted)
+        Ok(Reply::Refused(why))
     }
 
     /// The backup goes live in the place of the stopped primary.

@@ -5,9 +5,9 @@ ghost use Rattle.pair_record.specs.Protocol.{allowed, loss_reply};
 ghost use Rattle.pair_core.specs.Answering.{MayWantMemory};
 ghost use Rattle.pair_core.specs.Leaves.{Leaves};
 
-use super::{WORD_FULL, World};
+use super::{WORD_FULL, World, by_table};
 use memory_wanted::MemoryWanted;
-use pair_record::{Refusal, Reply};
+use pair_record::Reply;
 
 impl World {
     /// The line drops a frame of a client's inbox.
@@ -21,12 +21,9 @@ impl World {
     {
         let why = match self.record.lose_in(client, place, WORD_FULL) {
             Ok(is_there) => return Ok(lost(is_there)),
-            Err(why) => why,
+            Err(why) => by_table(why)?,
         };
-        let Refusal::NoMemory(wanted) = why else {
-            return Ok(Reply::Refused(why));
-        };
-        Err(wanted)
+        Ok(Reply::Refused(why))
     }
 
     /// The line drops a frame of a client's box.
@@ -40,12 +37,9 @@ impl World {
     {
         let why = match self.record.lose_out(client, place, WORD_FULL) {
             Ok(is_there) => return Ok(lost(is_there)),
-            Err(why) => why,
+            Err(why) => by_table(why)?,
         };
-        let Refusal::NoMemory(wanted) = why else {
-            return Ok(Reply::Refused(why));
-        };
-        Err(wanted)
+        Ok(Reply::Refused(why))
     }
 }
 

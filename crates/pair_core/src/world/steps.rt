@@ -14,7 +14,7 @@ ghost use Rattle.pair_core.specs.Runs.{StepsAnswer, steps_outcome, with_steps};
 ghost use Rattle.pair_core.specs.Service.{Serves, ServesSteps, moment};
 ghost use Rattle.pair_history.specs.Entries.{Begins};
 
-use super::World;
+use super::{World, by_table};
 use memory_wanted::MemoryWanted;
 use pair_record::{Refusal, Reply, is_alone};
 
@@ -81,11 +81,11 @@ impl World {
         ensures memory { OnErr result (MayWantMemory self.old.protocol.state (step_outcome self.old.start self.old.protocol.state)) }
         ensures err { OnErr result (self.new ≡ self.old) }
     {
-        match self.step() {
-            Ok(count) => Ok(Reply::Steps(count)),
-            Err(Refusal::NoMemory(wanted)) => Err(wanted),
-            Err(refusal) => Ok(Reply::Refused(refusal)),
-        }
+        let why = match self.step() {
+            Ok(count) => return Ok(Reply::Steps(count)),
+            Err(why) => by_table(why)?,
+        };
+        Ok(Reply::Refused(why))
     }
 
     /// Steps of a pair: they are kept.

@@ -1,6 +1,7 @@
 use Rattle.pair_core.specs.Service.{Serves}
 use Rattle.pair_core.specs.laws.Along.{along-point}
-use Rattle.pair_core.proofs.ServiceRuns.{served_grows, told_take, told_deliver, told_full, told_resume}
+use Rattle.pair_core.specs.laws.Serves.{served_grows}
+use Rattle.pair_core.proofs.ServiceRuns.{told_take, told_deliver, told_full, told_resume}
 use Rattle.pair_core.proofs.laws.clients_have_one_guest_that_never_fails.Goals as goal
 
 pub returns-clause-grows : goal.returns-clause-grows

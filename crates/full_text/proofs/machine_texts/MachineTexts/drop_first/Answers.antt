@@ -17,8 +17,8 @@ returns-then-count-gt0-clause-texts c =
     let a = c.self.inside in
     let settled = a.machine.settled in
     let behind = c.args.count - c.take_full.result in
-    ap (λ (f : Option Making). texts_of settled f (map (λ t. t.items) c.drop_first.new.texts.items)) c.take_full.ensures.none
-    ∙ ap (map (λ t. t.items)) c.drop_first.ensures.items
+    ap (λ (f : Option Making). texts_of settled f (map (λ t. t.items) c.drop-drain.new.self.0.items)) c.take_full.ensures.none
+    ∙ ap (map (λ t. t.items)) (c.drop-drain.ensures.items ∙ c.drain.ensures.kept)
     ∙ sym (drop-map (λ t. t.items) behind a.texts.items)
     ∙ dropped settled a.full c.args.count behind (map (λ t. t.items) a.texts.items) c.if-count-gt0.true
     (ap (λ n. c.args.count - n) c.take_full.ensures.value)

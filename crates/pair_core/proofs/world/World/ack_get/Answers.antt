@@ -1,14 +1,15 @@
-use Rattle.std.proofs.{Common.{arith, ◌≡◌, ◌<◌, ◌∙◌, refl, sym, ap, false, Some}, lemmas.List.length-append}
+use Rattle.std.proofs.{Common.{arith, ◌≡◌, ◌<◌, ◌∙◌, sym, ap, subst, false, Some}, lemmas.List.length-append}
 use Rattle.std.specs.Prelude.{slice_get}
 use Rattle.pair_history.specs.Landings.{landings}
 use Rattle.pair_record.specs.Protocol.{Outcome, first_refusal, ack_done, ack_outcome, ack_refusals, acknowledge_refusals, let_go}
 use Rattle.pair_record.specs.declared.event.Reply.TheVariants as replies
-use Rattle.pair_core.specs.{Answering.AddsEntries, Pair.{shown_state}}
+use Rattle.pair_core.specs.{Answering.{AddsEntries, MayWantMemory}, Pair.{shown_state}}
 use Rattle.pair_record.specs.Record.{ports_after_ack}
 use Rattle.pair_core.specs.internal.WorldFields.{pair_of}
 use Rattle.pair_history.specs.laws.Landings.{length-landings}
 use Rattle.pair_core.specs.laws.{Events.moved_to, ClientEvents.ack_holds, Lines.below_at}
-use Rattle.pair_core.proofs.{Calls.named, Outcomes.{goes, stops}}
+use Rattle.pair_core.specs.laws.Outcomes.{done_if_none_refuses, refused_by_the_first}
+use Rattle.pair_core.proofs.Calls.{named, on_err}
 use Rattle.pair_record.specs.laws.Tables.{acknowledge_free, acknowledge_as}
 use Rattle.pair_core.proofs.world.World.ack_get.Goals.{In-Some}
 use Rattle.pair_core.proofs.world.World.ack_get.Goals as goal
@@ -48,28 +49,28 @@ invariant_of-self c =
     (ports_after_ack w.ports w.protocol.state p.number) (ap (λ (o : Outcome). o.1) c.in-Ok.ensures.done) c.in-Ok.ensures.ports
     (ack_holds w c.self.invariant c.keep.ensures.record c.keep.ensures.numbers c.keep.ensures.clients p.number free.1)
 
-pub returns-in_default-why-clause-outcome : goal.returns-in_default-why-clause-outcome
-returns-in_default-why-clause-outcome c =
+pub returns-clause-outcome : goal.returns-clause-outcome
+returns-clause-outcome c =
     let w = pair_of c.self.inside in
     let p = c.in-Some.packet in
-    let at = (goal.at.returns-in_default-why-clause-outcome c).In-Some in
+    let at = (goal.at.returns-clause-outcome c).In-Some in
     let rows = ack_refusals w.ports.boxes w.protocol.state p in
-    let first = named (acknowledge_refusals false w.ports.boxes w.protocol.state p) _ c.in-Err.why c.in_default-why.not-NoMemory c.in-Err.ensures.why in
-    (λ i. (replies.Refused c.in-Err.why, c.in-Err.ensures.refused.0 i))
-    ∙ rw (← c.self.view_is) (seen at _ (stops w.protocol.state rows (ack_done w.ports.boxes w.protocol.state p.number) _ c.in-Err.why refl
+    let first = named (acknowledge_refusals false w.ports.boxes w.protocol.state p) _ c.in-Err.why c.in_ok-why-in-Err.ensures.other c.in-Err.ensures.why in
+    (λ i. (replies.Refused (c.in_ok-why-in-Err.ensures.same i), c.in-Err.ensures.refused.0 i))
+    ∙ rw (← c.self.view_is) (seen at _ (refused_by_the_first w.protocol.state rows (ack_done w.ports.boxes w.protocol.state p.number) c.in-Err.why
     (sym (table at) ∙ first)))
 
 -- it adds an entry for each frame that leaves
-pub returns-clause-memory : goal.returns-clause-memory
-returns-clause-memory c =
+pub returns-in_err-why-in-Err-clause-memory : goal.returns-in_err-why-in-Err-clause-memory
+returns-in_err-why-in-Err-clause-memory c =
     let w = pair_of c.self.inside in
     let r = w.protocol.state in
     let b = w.ports.boxes in
     let p = c.in-Some.packet in
-    let at = (goal.at.returns-clause-memory c).In-Some in
+    let at = (goal.at.returns-in_err-why-in-Err-clause-memory c).In-Some in
     let leaving = let_go b r p.number in
-    let why = rw c.in-NoMemory.is at c.in-Err.ensures.why in
-    let goes_on = seen at _ (goes r (ack_refusals b r p) (ack_done b r p.number) _ refl (sym (table at) ∙ why.0)) in
+    let why = rw c.in_err-why-in-Err.ensures.memory at c.in-Err.ensures.why in
+    let goes_on = seen at _ (done_if_none_refuses r (ack_refusals b r p) (ack_done b r p.number) (sym (table at) ∙ why.0)) in
     let adds : AddsEntries r (ack_done b r p.number).1 =
     omega (arith, length-append r.journal.history (landings b leaving), length-landings b leaving, why.1) in
-    rw (← c.self.view_is) (rw (← goes_on) adds)
+    rw (← c.self.view_is) (on_err _ _ (subst (MayWantMemory r) goes_on adds))

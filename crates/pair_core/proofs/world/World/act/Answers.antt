@@ -1,6 +1,7 @@
 use Rattle.std.proofs.Common.{refl, subst}
 use Rattle.pair_core.specs.{internal.WorldFields.pair_of, Pair.{Pair, AfterRefusal}}
-use Rattle.pair_core.proofs.{Outcomes.after_none, ReplicationLaws.refused_replicates}
+use Rattle.pair_core.specs.laws.Outcomes.{after_none}
+use Rattle.pair_core.proofs.ReplicationLaws.{refused_replicates}
 use Rattle.pair_core.proofs.world.World.act.Goals as goal
 
 pub returns-in-Some-clause-leaves : goal.returns-in-Some-clause-leaves

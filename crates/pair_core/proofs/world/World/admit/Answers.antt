@@ -2,23 +2,23 @@ use Rattle.std.proofs.Common.{rules, arith, ◌∙◌, sym, subst, length}
 use Rattle.pair_core.specs.{Invariant.Holds, internal.WorldFields.pair_of}
 use Rattle.pair_core.proofs.Calls.{on_err}
 use Rattle.pair_core.specs.laws.AllLands.{admitted_holds}
-use Rattle.pair_record.specs.laws.Tables.{passed}
-use Rattle.pair_core.proofs.Outcomes.{client_range, admit_empty, admit_stops, admit_goes, admit_wants}
+use Rattle.pair_record.specs.laws.Tables.{client_range, passed}
+use Rattle.pair_core.specs.laws.Outcomes.{admit_finds_none, admit_is_refused, admit_is_done, admit_may_want}
 use Rattle.pair_record.specs.declared.event.Reply.TheVariants as replies
 use Rattle.pair_core.proofs.world.World.admit.Goals as goal
 
 pub returns-then-inbox_len-eq0-clause-outcome : goal.returns-then-inbox_len-eq0-clause-outcome
-returns-then-inbox_len-eq0-clause-outcome c = search (arith, rules, admit_empty)
+returns-then-inbox_len-eq0-clause-outcome c = search (arith, rules, admit_finds_none)
 
 pub returns-in-Some-admit_refusal-clause-outcome : goal.returns-in-Some-admit_refusal-clause-outcome
 returns-in-Some-admit_refusal-clause-outcome c =
     let w = pair_of c.self.inside in
-    rw (← c.self.view_is) (admit_stops w c.self.invariant c.args.client c.arrival_refusal.result c.arrival_refusal.ensures c.in_default.is
+    rw (← c.self.view_is) (admit_is_refused w c.self.invariant c.args.client c.arrival_refusal.result c.arrival_refusal.ensures c.in_default.is
     (λ e. c.if-inbox_len-eq0.false (c.inbox_len.ensures ∙ e)) c.admit_refusal.result c.admit_refusal.ensures c.in-Some-admit_refusal.why
     c.in-Some-admit_refusal.is)
 
 pub returns-in_err-number-clause-memory : goal.returns-in_err-number-clause-memory
-returns-in_err-number-clause-memory c = search (arith, rules, admit_wants, on_err)
+returns-in_err-number-clause-memory c = search (arith, rules, admit_may_want, on_err)
 
 pub invariant_of-self-2 : goal.invariant_of-self-2
 invariant_of-self-2 c =
@@ -33,6 +33,6 @@ pub returns-clause-outcome : goal.returns-clause-outcome
 returns-clause-outcome c =
     let w = pair_of c.self.inside in
     (λ i. (replies.Admitted c.in_ok-number.number, c.in_ok-number.ensures.protocol i))
-    ∙ (rw (← c.self.view_is) (admit_goes w c.self.invariant c.args.client c.arrival_refusal.result c.arrival_refusal.ensures c.in_default.is
+    ∙ (rw (← c.self.view_is) (admit_is_done w c.self.invariant c.args.client c.arrival_refusal.result c.arrival_refusal.ensures c.in_default.is
     (λ e. c.if-inbox_len-eq0.false (c.inbox_len.ensures ∙ e)) c.admit_refusal.result c.admit_refusal.ensures c.in_ok-number.number
     c.in_ok-number.frame c.in_ok-number.ensures.first c.in_default-admit_refusal.is))

@@ -1,5 +1,6 @@
 use Rattle.std.proofs.Common.{rules, arith, ◌≡◌}
-use Rattle.pair_core.proofs.{PublicLaws.answers_by_outcome, ServiceLaws.serves, world.World.apply.Goals.After-answered}
+use Rattle.pair_core.specs.laws.Serves.{one_event_serves}
+use Rattle.pair_core.proofs.{Calls.answers_by_outcome, world.World.apply.Goals.After-answered}
 use Rattle.pair_core.specs.Answering.{AnswersEvent}
 use Rattle.pair_core.proofs.world.World.apply.Goals as goal
 
@@ -23,5 +24,5 @@ pub returns-clause-serves : goal.returns-clause-serves
 returns-clause-serves c =
     let drops = c.keep_drops.ensures c.args.event c.answered.result c.act-outcome.new.self.protocol
     (answers (goal.at.returns-clause-serves c).After-answered) in
-    serves c.args.self.now c.act-outcome.new.self c.args.event c.answered.result (stays (goal.at.returns-clause-serves c).After-answered) c.keep_consistent.ensures
+    one_event_serves c.args.self.now c.act-outcome.new.self c.args.event c.answered.result (stays (goal.at.returns-clause-serves c).After-answered) c.keep_consistent.ensures
     c.keep_consistent-2.ensures drops

@@ -10,10 +10,10 @@ use Rattle.pair_core.specs.{Pair.{Pair, shown_state}, Replication.Replicates}
 use Rattle.pair_record.specs.Protocol.{Record, Outcome, first_refusal, backup_refusals}
 use Rattle.pair_core.specs.internal.WorldFields.{pair_of}
 use Rattle.pair_record.specs.laws.Modes.{backup_goes}
-use Rattle.pair_core.proofs.ReplicationLaws.{after_commit, commit_replicates}
+use Rattle.pair_core.proofs.ReplicationLaws.{commit_replicates}
 use Rattle.pair_core.specs.laws.Consistent.{in_mode}
 use Rattle.pair_core.specs.Lines.{Lines, packet, with_back, lines_after}
-use Rattle.pair_core.specs.laws.{Events.{lines_hold, commit_holds, oldest_text}, Lines.{below_at, named-back}}
+use Rattle.pair_core.specs.laws.{Events.{after_commit, commit_holds, lines_hold, oldest_text}, Lines.{below_at, named-back}}
 use Rattle.pair_record.specs.laws.{Tables.{passed, same_generation}, Records.commit_record}
 use Rattle.pair_core.specs.laws.Nodes.{reads-whole, reads-shape}
 use Rattle.pair_core.proofs.world.World.backup_get.Goals.{After-commit-2}

@@ -9,10 +9,11 @@ use Rattle.epoch_snapshot.specs.Bases.{IsBase}
 use Rattle.guest_machine.specs.Guest.{Guest}
 use Rattle.pair_record.specs.laws.Modes.{primary_goes}
 use Rattle.pair_core.specs.laws.Consistent.{in_mode, live_is}
-use Rattle.pair_core.proofs.ReplicationLaws.{after_cut, cut_replicates}
+use Rattle.pair_core.proofs.ReplicationLaws.{cut_replicates}
 use Rattle.pair_record.specs.laws.Records.{cut_record}
-use Rattle.pair_core.specs.laws.Events.{cut_holds}
-use Rattle.pair_core.proofs.{Outcomes.{goes, cut_sight}, world.World.cut.Goals.In_ok-reply}
+use Rattle.pair_core.specs.laws.Events.{after_cut, cut_holds}
+use Rattle.pair_core.specs.laws.Outcomes.{done_if_none_refuses, cut_sees_the_pair}
+use Rattle.pair_core.proofs.world.World.cut.Goals.{In_ok-reply}
 use Rattle.pair_core.proofs.world.World.cut.Goals as goal
 
 -- no node is alone
@@ -68,5 +69,7 @@ returns-clause-leaves c =
 pub returns-clause-outcome : goal.returns-clause-outcome
 returns-clause-outcome c =
     let w = pair_of c.self.inside in
-    rw (← c.self.view_is) (done (goal.at.returns-clause-outcome c).In_ok-reply ∙ goes w.protocol.state (cut_refusals w.protocol.state) (cut_done
-    w.nodes.live.outbox w.protocol.state) c.cut_refusal.result c.cut_refusal.ensures.refusal c.in_default.is ∙ cut_sight w c.self.invariant)
+    rw (← c.self.view_is) (done (goal.at.returns-clause-outcome c).In_ok-reply
+    ∙ done_if_none_refuses w.protocol.state (cut_refusals w.protocol.state) (cut_done w.nodes.live.outbox w.protocol.state)
+    (sym c.cut_refusal.ensures.refusal ∙ c.in_default.is)
+    ∙ cut_sees_the_pair w c.self.invariant)

@@ -1,14 +1,15 @@
 use Rattle.std.proofs.Common.{rules, ◌≡◌, ◌∙◌, false, None, ap, length, subst}
 use Rattle.frame_ports.specs.Ports.{after_delivery}
 use Rattle.pair_record.specs.declared.event.Event.TheVariants.{Deliver}
+use Rattle.pair_record.specs.declared.event.Reply.TheVariants as replies
 use Rattle.pair_record.specs.Protocol.{Outcome, allowed, deliver_refusals, deliver_done, delivery_refused}
 use Rattle.pair_record.specs.laws.Tables.{delivery_free}
 use Rattle.pair_core.specs.Pair.{Pair, AfterRefusal}
 use Rattle.pair_core.specs.internal.WorldFields.{pair_of}
 use Rattle.frame_ports.specs.Lands.{list_of}
 use Rattle.pair_core.specs.laws.{Events.moved_to, ClientEvents.{deliver_holds, refused_holds, after_refusal}}
-use Rattle.pair_core.proofs.Calls.{named_delivery}
-use Rattle.pair_core.proofs.Outcomes.{deliver_goes, deliver_stops, deliver_wants}
+use Rattle.pair_core.proofs.Calls.{named_delivery, on_err}
+use Rattle.pair_core.specs.laws.Outcomes.{delivery_is_done, delivery_is_refused, delivery_may_want}
 use Rattle.pair_core.proofs.world.World.deliver.Goals as goal
 
 pub invariant_of-self : goal.invariant_of-self
@@ -29,37 +30,37 @@ returns-in-Ok-clause-outcome c =
     let Out : Pair → Outcome = λ v. allowed v.start v.protocol.state None (Deliver c.args.client c.args.bytes) in
     let done = deliver_done w.protocol.state c.args.client (record { items = c.args.bytes.now }) w.ports.next in
     c.in-Ok.ensures.done
-    ∙ subst (λ (v : Pair). done ≡ Out v) c.self.view_is (deliver_goes w c.self.invariant c.args.client c.args.bytes.now c.in-Ok.ensures.free)
+    ∙ subst (λ (v : Pair). done ≡ Out v) c.self.view_is (delivery_is_done w c.self.invariant c.args.client c.args.bytes.now c.in-Ok.ensures.free)
 
-pub returns-clause-memory : goal.returns-clause-memory
-returns-clause-memory c =
-    rw (← c.self.view_is) (deliver_wants (pair_of c.self.inside) c.self.invariant c.args.client c.args.bytes.now
-    (rw c.in-NoMemory.is at c.in-Err.ensures.why))
+pub returns-in_err-why-in-Err-clause-memory : goal.returns-in_err-why-in-Err-clause-memory
+returns-in_err-why-in-Err-clause-memory c =
+    rw (← c.self.view_is) (on_err _ _ (delivery_may_want (pair_of c.self.inside) c.self.invariant c.args.client c.args.bytes.now
+    (rw c.in_err-why-in-Err.ensures.memory at c.in-Err.ensures.why)))
 
-pub invariant_of-self-in_default : goal.invariant_of-self-in_default
-invariant_of-self-in_default c =
+pub invariant_of-self-2 : goal.invariant_of-self-2
+invariant_of-self-2 c =
     let w = pair_of c.self.inside in
     let why = c.in-Err.why in
     let rows = (deliver_refusals false (length w.ports.boxes) (list_of w.ports.inboxes c.args.client) w.ports.next w.protocol.state
     c.args.client c.args.bytes.now) in
     refused_holds w c.self.invariant c.args.client c.args.bytes.now c.deliver.new.self.protocol
-    c.deliver.new.self.ports c.in-Err.ensures.same why (named_delivery rows why c.in_default.not-NoMemory c.in-Err.ensures.why)
+    c.deliver.new.self.ports c.in-Err.ensures.same why (named_delivery rows why c.in_ok-why-in-Err.ensures.other c.in-Err.ensures.why)
     c.in-Err.ensures.refused
 
-pub returns-in_default-clause-outcome : goal.returns-in_default-clause-outcome
-returns-in_default-clause-outcome c =
+pub returns-clause-outcome : goal.returns-clause-outcome
+returns-clause-outcome c =
     let w = pair_of c.self.inside in
     let why = c.in-Err.why in
     let Out : Pair → Outcome = λ v. allowed v.start v.protocol.state None (Deliver c.args.client c.args.bytes) in
     let rows = (deliver_refusals false (length w.ports.boxes) (list_of w.ports.inboxes c.args.client) w.ports.next w.protocol.state
     c.args.client c.args.bytes.now) in
     let done = delivery_refused w.protocol.state c.args.client (record { items = c.args.bytes.now }) why in
-    c.in-Err.ensures.refused
-    ∙ subst (λ (v : Pair). done ≡ Out v) c.self.view_is (deliver_stops w c.self.invariant c.args.client c.args.bytes.now why
-    (named_delivery rows why c.in_default.not-NoMemory c.in-Err.ensures.why))
+    (λ i. (replies.Refused (c.in_ok-why-in-Err.ensures.same i), c.deliver.new.self.protocol)) ∙ c.in-Err.ensures.refused
+    ∙ subst (λ (v : Pair). done ≡ Out v) c.self.view_is (delivery_is_refused w c.self.invariant c.args.client c.args.bytes.now why
+    (named_delivery rows why c.in_ok-why-in-Err.ensures.other c.in-Err.ensures.why))
 
-pub returns-in_default-clause-leaves : goal.returns-in_default-clause-leaves
-returns-in_default-clause-leaves c =
+pub returns-clause-leaves : goal.returns-clause-leaves
+returns-clause-leaves c =
     let w = pair_of c.self.inside in
     let now = c.deliver.new.self in
     let new = record w { protocol = record w.protocol { state = now.protocol }; ports = now.ports } in
@@ -67,7 +68,7 @@ returns-in_default-clause-leaves c =
       start = search rules;
       lines = search rules;
       replicates = search rules;
-      refused = subst (λ (v : Pair). AfterRefusal c.in-Err.why v new) c.self.view_is
+      refused = rw c.in_ok-why-in-Err.ensures.same (subst (λ (v : Pair). AfterRefusal c.in-Err.why v new) c.self.view_is
           (after_refusal w c.self.invariant c.args.client c.args.bytes.now now.protocol now.ports c.in-Err.ensures.same c.in-Err.why
-          c.in-Err.ensures.refused);
+          c.in-Err.ensures.refused));
     }

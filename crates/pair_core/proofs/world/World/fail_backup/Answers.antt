@@ -3,12 +3,13 @@ use Rattle.failover.specs.declared.mode.Mode.TheVariants.{Alone}
 use Rattle.pair_history.specs.Entries.{Frame}
 use Rattle.pair_record.specs.Protocol.{Outcome, first_refusal, fail_backup_refusals, fail_backup_done}
 use Rattle.pair_record.specs.declared.event.Reply.TheVariants as replies
-use Rattle.pair_core.specs.{Invariant.Holds, Nodes.left_alone}
+use Rattle.pair_core.specs.{Answering.MayWantMemory, Invariant.Holds, Nodes.left_alone}
 use Rattle.pair_record.specs.{Record.ports_after_all, Window.none_pending}
 use Rattle.pair_core.specs.internal.WorldFields.{pair_of}
 use Rattle.pair_record.specs.laws.Modes.{failure_goes}
 use Rattle.pair_core.specs.laws.{AllLands.all_landed_holds, Consistent.some_cut}
-use Rattle.pair_core.proofs.{Calls.named, Outcomes.{stops, goes, fail_backup_sight}}
+use Rattle.pair_core.specs.laws.Outcomes.{done_if_none_refuses, refused_by_the_first, fail_backup_sees_the_pair}
+use Rattle.pair_core.proofs.Calls.{named, on_err}
 use Rattle.pair_core.proofs.world.World.fail_backup.Goals.{After-fail_backup}
 use Rattle.pair_core.proofs.world.World.fail_backup.Goals as goal
 
@@ -26,30 +27,30 @@ fail_backup-requires-clause-sealed c =
     let two = failure_goes w.protocol.state.mode (rw (← c.self.view_is) at c.requires) in
     some_cut w c.self.invariant c.keep.ensures.record two
 
-pub returns-in_default-clause-outcome : goal.returns-in_default-clause-outcome
-returns-in_default-clause-outcome c =
+pub returns-clause-outcome : goal.returns-clause-outcome
+returns-clause-outcome c =
     let w = pair_of c.self.inside in
     let b = w.ports.boxes in
     let outbox = w.nodes.live.outbox in
-    let at = (goal.at.returns-in_default-clause-outcome c).After-fail_backup in
+    let at = (goal.at.returns-clause-outcome c).After-fail_backup in
     let first =
-    named (fail_backup_refusals b c.outbox.result.now w.protocol.state) _ c.in-Err.why c.in_default.not-NoMemory c.in-Err.ensures.why in
-    (λ i. (replies.Refused c.in-Err.why, c.in-Err.ensures.refused.0 i))
-    ∙ rw (← c.self.view_is) (stops w.protocol.state (fail_backup_refusals b outbox w.protocol.state) (fail_backup_done b outbox w.protocol.state)
-    _ c.in-Err.why refl (sym (table at) ∙ first) ∙ fail_backup_sight w c.self.invariant)
+    named (fail_backup_refusals b c.outbox.result.now w.protocol.state) _ c.in-Err.why c.in_ok-why-in-Err.ensures.other c.in-Err.ensures.why in
+    (λ i. (replies.Refused (c.in_ok-why-in-Err.ensures.same i), c.in-Err.ensures.refused.0 i))
+    ∙ rw (← c.self.view_is) (refused_by_the_first w.protocol.state (fail_backup_refusals b outbox w.protocol.state)
+    (fail_backup_done b outbox w.protocol.state) c.in-Err.why (sym (table at) ∙ first) ∙ fail_backup_sees_the_pair w c.self.invariant)
 
-pub returns-clause-memory : goal.returns-clause-memory
-returns-clause-memory c =
+pub returns-in_err-why-in-Err-clause-memory : goal.returns-in_err-why-in-Err-clause-memory
+returns-in_err-why-in-Err-clause-memory c =
     let w = pair_of c.self.inside in
     let b = w.ports.boxes in
     let outbox = w.nodes.live.outbox in
-    let at = (goal.at.returns-clause-memory c).After-fail_backup in
-    let why = rw c.in-NoMemory.is at c.in-Err.ensures.why in
+    let at = (goal.at.returns-in_err-why-in-Err-clause-memory c).After-fail_backup in
+    let why = rw c.in_err-why-in-Err.ensures.memory at c.in-Err.ensures.why in
     let goes_on =
-    goes w.protocol.state (fail_backup_refusals b outbox w.protocol.state) (fail_backup_done b outbox w.protocol.state) _ refl
+    done_if_none_refuses w.protocol.state (fail_backup_refusals b outbox w.protocol.state) (fail_backup_done b outbox w.protocol.state)
     (sym (table at) ∙ why.0)
-    ∙ fail_backup_sight w c.self.invariant in
-    rw (← c.self.view_is) (rw (← goes_on) tt)
+    ∙ fail_backup_sees_the_pair w c.self.invariant in
+    rw (← c.self.view_is) (on_err _ _ (subst (MayWantMemory w.protocol.state) goes_on tt))
 
 pub invariant_of-self : goal.invariant_of-self
 invariant_of-self c =
@@ -71,6 +72,6 @@ returns-in-Ok-clause-outcome c =
     rw (← c.self.view_is)
     (c.in-Ok.ensures.ok
     ∙ ap (λ (fs : List Frame). fail_backup_done b fs w.protocol.state) c.outbox.ensures.value
-    ∙ goes w.protocol.state (fail_backup_refusals b outbox w.protocol.state) (fail_backup_done b outbox w.protocol.state) _ refl
+    ∙ done_if_none_refuses w.protocol.state (fail_backup_refusals b outbox w.protocol.state) (fail_backup_done b outbox w.protocol.state)
     (sym (table at) ∙ c.in-Ok.ensures.free)
-    ∙ fail_backup_sight w c.self.invariant)
+    ∙ fail_backup_sees_the_pair w c.self.invariant)

@@ -1,11 +1,12 @@
-use Rattle.std.proofs.Common.{◌∙◌, refl, false, length}
+use Rattle.std.proofs.Common.{◌∙◌, false, length}
 use Rattle.frame_ports.specs.Lands.{list_of}
 use Rattle.pair_record.specs.{declared.event.Event.TheVariants.LoseIn, Protocol.{loss_of, loss_refusals, lost_in}}
 use Rattle.pair_record.specs.declared.event.Reply.TheVariants as replies
 use Rattle.pair_core.specs.internal.WorldFields.{pair_of}
-use Rattle.pair_core.proofs.{Calls.named, Outcomes.stops}
+use Rattle.pair_core.specs.laws.Outcomes.{refused_by_the_first}
+use Rattle.pair_core.proofs.Calls.{named, on_err}
 use Rattle.pair_core.specs.laws.ClientEvents.{lost_in_holds}
-use Rattle.pair_core.proofs.LossOutcomes.{lose_in_sight, loss_goes, loss_wants}
+use Rattle.pair_core.specs.laws.Losses.{lose_in_sees_the_pair, loss_is_done, loss_may_want}
 use Rattle.pair_core.proofs.world.World.lose_in.Goals as goal
 
 pub invariant_of-self : goal.invariant_of-self
@@ -19,24 +20,24 @@ returns-in-Ok-clause-outcome c =
     let client = c.args.client in
     let place = c.args.place in
     (λ i. (c.lost.ensures i, c.lose_in.new.self.protocol)) ∙ c.in-Ok.ensures.done
-    ∙ rw (← c.self.view_is) (loss_goes w (LoseIn client place) client (lost_in (list_of w.ports.inboxes client) place) (lose_in_sight w c.self.invariant client place)
+    ∙ rw (← c.self.view_is) (loss_is_done w (LoseIn client place) client (lost_in (list_of w.ports.inboxes client) place) (lose_in_sees_the_pair w c.self.invariant client place)
     c.in-Ok.ensures.free)
 
-pub returns-clause-memory : goal.returns-clause-memory
-returns-clause-memory c =
+pub returns-in_err-why-in-Err-clause-memory : goal.returns-in_err-why-in-Err-clause-memory
+returns-in_err-why-in-Err-clause-memory c =
     let w = pair_of c.self.inside in
     let client = c.args.client in
     let place = c.args.place in
-    let why = rw c.in-NoMemory.is at c.in-Err.ensures.why in
-    rw (← c.self.view_is) (loss_wants w (LoseIn client place) client (lost_in (list_of w.ports.inboxes client) place) (lose_in_sight w c.self.invariant client place) why.0 why.1)
+    let why = rw c.in_err-why-in-Err.ensures.memory at c.in-Err.ensures.why in
+    rw (← c.self.view_is) (on_err _ _ (loss_may_want w (LoseIn client place) client (lost_in (list_of w.ports.inboxes client) place) (lose_in_sees_the_pair w c.self.invariant client place) why.0 why.1))
 
-pub returns-in_default-clause-outcome : goal.returns-in_default-clause-outcome
-returns-in_default-clause-outcome c =
+pub returns-clause-outcome : goal.returns-clause-outcome
+returns-clause-outcome c =
     let w = pair_of c.self.inside in
     let client = c.args.client in
     let place = c.args.place in
     let lost = lost_in (list_of w.ports.inboxes client) place in
     let rows = loss_refusals false (length w.ports.boxes) w.protocol.state client lost in
-    (λ i. (replies.Refused c.in-Err.why, c.in-Err.ensures.refused.0 i))
-    ∙ rw (← c.self.view_is) (stops w.protocol.state rows (loss_of w.protocol.state lost) _ c.in-Err.why refl
-    (named rows _ c.in-Err.why c.in_default.not-NoMemory c.in-Err.ensures.why) ∙ lose_in_sight w c.self.invariant client place)
+    (λ i. (replies.Refused (c.in_ok-why-in-Err.ensures.same i), c.in-Err.ensures.refused.0 i))
+    ∙ rw (← c.self.view_is) (refused_by_the_first w.protocol.state rows (loss_of w.protocol.state lost) c.in-Err.why
+    (named rows _ c.in-Err.why c.in_ok-why-in-Err.ensures.other c.in-Err.ensures.why) ∙ lose_in_sees_the_pair w c.self.invariant client place)

@@ -1,6 +1,6 @@
 use Rattle.std.proofs.Common.{rules, sym, subst, arith}
 use Rattle.pair_core.specs.{Invariant.Holds, internal.WorldFields.pair_of}
-use Rattle.pair_core.proofs.StepRuns.{steps_hold, steps_answered}
+use Rattle.pair_core.specs.laws.Steps.{steps_hold, steps_answered}
 use Rattle.pair_core.proofs.world.World.make_steps.Goals as goal
 
 pub invariant_of-self : goal.invariant_of-self

@@ -1,8 +1,7 @@
 use Rattle.std.proofs.{Common.{rules, ◌≡◌, ◌+◌, ◌++◌, ◌∷◌, [], length, take, get_or, ◌∙◌, arith, ◌<◌, List, subst}, lemmas.List.{take_more, take_all}}
 use Rattle.pair_record.specs.declared.event.{Event.Event, Event.TheVariants.Step}
 use Rattle.pair_core.specs.{Along.Along, Answering.AnswersEvent, Drops.Drops, Replication.{Does, Leads}, Runs.Run, Service.{HasServed, Serves, moment}}
-use Rattle.pair_core.specs.laws.Along.{along-more}
-use Rattle.pair_core.proofs.PublicLaws.{Begins-trans}
+use Rattle.pair_core.specs.laws.{Along.along-more, Serves.Begins-trans}
 use Rattle.pair_core.proofs.world.World.run.Goals.{After-loop-event}
 use Rattle.pair_core.proofs.world.World.run.Goals as goal
 

@@ -1,6 +1,6 @@
 use Rattle.std.proofs.Common.{rules, ◌∙◌, ◌+◌, refl, ap, arith, inl}
 use Rattle.pair_record.specs.Modes.{is_alone}
-use Rattle.pair_core.proofs.{AloneRuns.steps_join, StepRuns.{no-steps-answered, refusal_answered}}
+use Rattle.pair_core.specs.laws.{LoneSteps.steps_join, Steps.{no-steps-answered, refusal_answered}}
 use Rattle.pair_core.proofs.world.World.run_alone.Goals as goal
 
 pub loop-made-init : goal.loop-made-init

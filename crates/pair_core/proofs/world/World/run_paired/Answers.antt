@@ -1,6 +1,6 @@
 use Rattle.std.proofs.Common.{◌<◌, ap, arith}
 use Rattle.pair_core.specs.Pair.{Pair}
-use Rattle.pair_core.proofs.StepRuns.{refusal_answered}
+use Rattle.pair_core.specs.laws.Steps.{refusal_answered}
 use Rattle.pair_core.proofs.world.World.run_paired.Goals as goal
 
 pub returns-clause-outcome : goal.returns-clause-outcome

@@ -1,15 +1,15 @@
 use Rattle.std.proofs.Common.{rules, arith, ap, refl}
 use Rattle.pair_record.specs.declared.event.Event.TheVariants.{Step}
 use Rattle.pair_core.specs.Pair.{Pair}
-use Rattle.pair_core.proofs.{AloneRuns.{paired_answer, alone_answer}, ServiceLaws.serves, StepRuns.{one-step-answered, refused_step}}
+use Rattle.pair_core.specs.laws.{LoneSteps.{paired_step_answered, lone_step_answered}, Serves.one_event_serves, Steps.{one-step-answered, refused_step}}
 use Rattle.pair_core.proofs.world.World.step.Goals as goal
 
 pub returns-then-is_alone-clause-answers : goal.returns-then-is_alone-clause-answers
-returns-then-is_alone-clause-answers c = alone_answer _ _ _ c.run_alone-answer.result c.run_alone-answer.ensures.outcome
+returns-then-is_alone-clause-answers c = lone_step_answered _ _ _ c.run_alone-answer.result c.run_alone-answer.ensures.outcome
 
 pub returns-clause-answers : goal.returns-clause-answers
 returns-clause-answers c =
-    paired_answer _ _ _ c.run_paired-answer.result c.run_paired-answer.ensures.outcome
+    paired_step_answered _ _ _ c.run_paired-answer.result c.run_paired-answer.ensures.outcome
     (ap (λ (v : Pair). v.protocol.lines) c.run_paired-answer.ensures.made.1)
 
 pub returns-clause-refused : goal.returns-clause-refused
@@ -17,27 +17,27 @@ returns-clause-refused c = search (arith, rules, one-step-answered, refused_step
 
 pub returns-then-is_alone-clause-grows : goal.returns-then-is_alone-clause-grows
 returns-then-is_alone-clause-grows c =
-    let d = c.keep_drops.ensures Step _ _ (alone_answer _ _ _ c.run_alone-answer.result c.run_alone-answer.ensures.outcome) in
+    let d = c.keep_drops.ensures Step _ _ (lone_step_answered _ _ _ c.run_alone-answer.result c.run_alone-answer.ensures.outcome) in
     (d.entries, d.grows)
 
 pub returns-then-is_alone-clause-drops : goal.returns-then-is_alone-clause-drops
-returns-then-is_alone-clause-drops c = c.keep_drops.ensures Step _ _ (alone_answer _ _ _ c.run_alone-answer.result c.run_alone-answer.ensures.outcome)
+returns-then-is_alone-clause-drops c = c.keep_drops.ensures Step _ _ (lone_step_answered _ _ _ c.run_alone-answer.result c.run_alone-answer.ensures.outcome)
 
 pub returns-then-is_alone-clause-serves : goal.returns-then-is_alone-clause-serves
 returns-then-is_alone-clause-serves c =
-    serves c.args.self.now c.run_alone-answer.new.self Step _ c.run_alone-answer.ensures.start c.keep_consistent.ensures
+    one_event_serves c.args.self.now c.run_alone-answer.new.self Step _ c.run_alone-answer.ensures.start c.keep_consistent.ensures
     c.keep_consistent-then-is_alone.ensures
-    (c.keep_drops.ensures Step _ _ (alone_answer _ _ _ c.run_alone-answer.result c.run_alone-answer.ensures.outcome))
+    (c.keep_drops.ensures Step _ _ (lone_step_answered _ _ _ c.run_alone-answer.result c.run_alone-answer.ensures.outcome))
 
 pub returns-clause-drops : goal.returns-clause-drops
-returns-clause-drops c = c.keep_drops.ensures Step _ _ (paired_answer _ _ _ c.run_paired-answer.result c.run_paired-answer.ensures.outcome
+returns-clause-drops c = c.keep_drops.ensures Step _ _ (paired_step_answered _ _ _ c.run_paired-answer.result c.run_paired-answer.ensures.outcome
     (ap (λ (v : Pair). v.protocol.lines) c.run_paired-answer.ensures.made.1))
 
 pub returns-clause-serves : goal.returns-clause-serves
 returns-clause-serves c =
-    serves c.args.self.now c.run_paired-answer.new.self Step _
+    one_event_serves c.args.self.now c.run_paired-answer.new.self Step _
     (ap (λ (v : Pair). v.start) c.run_paired-answer.ensures.made.1) c.keep_consistent.ensures c.keep_consistent-2.ensures
-    (c.keep_drops.ensures Step _ _ (paired_answer _ _ _ c.run_paired-answer.result c.run_paired-answer.ensures.outcome
+    (c.keep_drops.ensures Step _ _ (paired_step_answered _ _ _ c.run_paired-answer.result c.run_paired-answer.ensures.outcome
     (ap (λ (v : Pair). v.protocol.lines) c.run_paired-answer.ensures.made.1)))
 
 pub returns-then-is_alone-clause-start : goal.returns-then-is_alone-clause-start

@@ -5,7 +5,7 @@ use Rattle.pair_history.specs.{Entries.{Frame, Ran}, Landings.landings}
 use Rattle.pair_record.specs.{Journal.{all_entries, with_history}, Modes.is_alone, Record.ports_landed}
 use Rattle.pair_core.specs.{Invariant.Holds, Nodes.{Nodes, after_run, with_sent_off}}
 use Rattle.pair_core.specs.{internal.WorldFields.pair_of}
-use Rattle.pair_core.proofs.AloneRuns.{after_alone, alone_holds, alone_answered}
+use Rattle.pair_core.specs.laws.LoneSteps.{after_lone_steps, lone_steps_hold, lone_steps_answered}
 use Rattle.pair_core.specs.laws.Consistent.{alone_is, keeps_nothing}
 use Rattle.pair_core.proofs.world.World.step_alone.Goals.{After-send_off}
 use Rattle.pair_record.specs.declared.event.Reply.TheVariants as replies
@@ -28,7 +28,7 @@ sent_is c =
     ∙ ap (λ (t : List Frame). t ++ fs) (alone_is w c.self.invariant (keeps_nothing w c.self.invariant c.keep.ensures.record (lone_is c))).outbox
 
 protocol_is : (c : After-send_off) → c.run_alone.new.self.protocol
-    ≡ (after_alone (pair_of c.self.inside) c.run_to_frame-steps.result
+    ≡ (after_lone_steps (pair_of c.self.inside) c.run_to_frame-steps.result
     (sent_in c.run_to_frame-steps.result (pair_of c.self.inside).nodes.live.guest)).protocol.state
 protocol_is c =
     let same = c.reserve_lone_steps.ensures.same in
@@ -40,7 +40,7 @@ protocol_is c =
     })
 
 ports_are : (c : After-send_off) → c.run_alone.new.self.ports
-    ≡ (after_alone (pair_of c.self.inside) c.run_to_frame-steps.result
+    ≡ (after_lone_steps (pair_of c.self.inside) c.run_to_frame-steps.result
     (sent_in c.run_to_frame-steps.result (pair_of c.self.inside).nodes.live.guest)).ports
 ports_are c =
     let same = c.reserve_lone_steps.ensures.same in
@@ -55,7 +55,7 @@ pub invariant_of-self-2 : goal.invariant_of-self-2
 invariant_of-self-2 c =
     let w = pair_of c.self.inside in
     subst Holds (λ i. record w { protocol = record w.protocol { state = sym (protocol_is c) i }; ports = sym (ports_are c) i; nodes = sym (nodes_are c) i })
-    (alone_holds w c.self.invariant (keeps_nothing w c.self.invariant c.keep.ensures.record (lone_is c)) (lone_is c) c.run_to_frame-steps.result)
+    (lone_steps_hold w c.self.invariant (keeps_nothing w c.self.invariant c.keep.ensures.record (lone_is c)) (lone_is c) c.run_to_frame-steps.result)
 
 pub returns-clause-answered : goal.returns-clause-answered
 returns-clause-answered c =
@@ -67,5 +67,5 @@ returns-clause-answered c =
     let left = c.alone_steps_left-most.ensures in
     let fits = by_count c.alone_steps_left-most.result (length (all_entries w.protocol.state.journal)) room left.fits in
     rw (← c.self.view_is) ((λ i. (replies.Steps (nodes_are c i).live.guest.steps, protocol_is c i))
-    ∙ alone_answered w c.self.invariant (keeps_nothing w c.self.invariant c.keep.ensures.record (lone_is c)) (lone_is c) n
+    ∙ lone_steps_answered w c.self.invariant (keeps_nothing w c.self.invariant c.keep.ensures.record (lone_is c)) (lone_is c) n
     c.run_to_frame-steps.ensures.quiet (omega arith) numbers)

@@ -1,5 +1,5 @@
 -- What the protocol answers to a loss that is asked for.
-use Rattle.std.proofs.Common.{◌≡◌, ℕ, List, ◌∷◌, length, refl, sym, ap, ◌∙◌, Bool, true, false, Option, None, Some}
+use Rattle.std.proofs.Common.{◌≡◌, ℕ, List, ◌∷◌, length, refl, ap, ◌∙◌, Bool, true, false, Option, None, Some}
 use Rattle.std.specs.Prelude.{not, IsSome}
 use Rattle.frame_ports.specs.Lands.{list_of}
 use Rattle.pair_history.specs.{Entries.{Frame, Entry}, HistoryState.inbox_of}
@@ -9,13 +9,14 @@ use Rattle.pair_record.specs.Protocol.{Outcome, lost_in, on_loss, on_lose_in, on
 use Rattle.pair_record.specs.Protocol.{is_among, entry_refusals, loss_refusals, loss_of}
 use Rattle.pair_record.specs.ClientActs.{if_there}
 use Rattle.pair_core.specs.{Answering.MayWantMemory, Invariant.Holds, Pair.{Pair, live_state}}
-use Rattle.pair_core.proofs.Outcomes.{seen, goes, client_range, inbox_is}
+use Rattle.pair_record.specs.laws.Tables.{client_range}
+use Rattle.pair_core.specs.laws.Outcomes.{seen, done_if_none_refuses, inbox_is}
 
 -- what it looks at
 
 module _ (w : Pair) (h : Holds w) where
-  pub lose_in_sight : (c place : ℕ) → on_lose_in (seen w) w.protocol.state c place ≡ allowed w.start w.protocol.state None (LoseIn c place)
-  lose_in_sight c place =
+  pub lose_in_sees_the_pair : (c place : ℕ) → on_lose_in (seen w) w.protocol.state c place ≡ allowed w.start w.protocol.state None (LoseIn c place)
+  lose_in_sees_the_pair c place =
       by_test (not (is_among c (length w.ports.boxes))) refl
       ∙ ap (λ (b : List (List Frame)). on_lose_in (record (sight w.start w.protocol.state) { boxes = b }) w.protocol.state c place)
       h.accords.clients.boxes
@@ -32,8 +33,8 @@ module _ (w : Pair) (h : Holds w) where
           let range = client_range c (length w.ports.boxes) e in
           ap (at_rows false) (inbox_is w h c range.0 range.1)
 
-  pub lose_out_sight : (c place : ℕ) → on_lose_out (seen w) w.protocol.state c place ≡ allowed w.start w.protocol.state None (LoseOut c place)
-  lose_out_sight c place =
+  pub lose_out_sees_the_pair : (c place : ℕ) → on_lose_out (seen w) w.protocol.state c place ≡ allowed w.start w.protocol.state None (LoseOut c place)
+  lose_out_sees_the_pair c place =
       ap (λ (b : List (List Frame)). on_lose_out (record (sight w.start w.protocol.state) { boxes = b }) w.protocol.state c place)
       h.accords.clients.boxes
 
@@ -41,14 +42,14 @@ module _ (w : Pair) (h : Holds w) where
 module _ (w : Pair) (event : Event) (c : ℕ) (lost : Option Entry)
     (sight : on_loss (length w.ports.boxes) w.protocol.state c lost ≡ allowed w.start w.protocol.state None event)
     (free : first_refusal (loss_refusals false (length w.ports.boxes) w.protocol.state c lost) ≡ None) where
-  pub loss_goes : loss_of w.protocol.state lost ≡ allowed w.start w.protocol.state None event
-  loss_goes =
-      goes w.protocol.state (loss_refusals false (length w.ports.boxes) w.protocol.state c lost) (loss_of w.protocol.state lost) None
-      (sym free) refl
+  pub loss_is_done : loss_of w.protocol.state lost ≡ allowed w.start w.protocol.state None event
+  loss_is_done =
+      done_if_none_refuses w.protocol.state (loss_refusals false (length w.ports.boxes) w.protocol.state c lost)
+      (loss_of w.protocol.state lost) free
       ∙ sight
 
-  pub loss_wants : IsSome lost → MayWantMemory w.protocol.state (allowed w.start w.protocol.state None event)
-  loss_wants there = rw (← loss_goes) (wants lost there)
+  pub loss_may_want : IsSome lost → MayWantMemory w.protocol.state (allowed w.start w.protocol.state None event)
+  loss_may_want there = rw (← loss_is_done) (wants lost there)
     where
       wants : (o : Option Entry) → IsSome o → MayWantMemory w.protocol.state (loss_of w.protocol.state o)
       wants None there = absurd (cc)

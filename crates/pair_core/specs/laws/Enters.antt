@@ -13,7 +13,7 @@ use Rattle.pair_core.specs.Pair.{is_of_guest}
 use Rattle.guest_machine.specs.Guest.{Guest}
 use Rattle.pair_core.specs.{Calls.Moment, Service.{Enters, guest_entries}}
 use Rattle.pair_core.specs.Lines.{Lines}
-use Rattle.pair_core.proofs.{Ends.{Ends, at_once}, Tells.{OfGuest, first_of-guest, live_all}}
+use Rattle.pair_core.specs.laws.{Ends.{Ends, at_once}, Tells.{OfGuest, first_of-guest, live_all}}
 use Rattle.pair_record.specs.declared.event.Reply.TheVariants as replies
 
 abbrev NotOfGuest : Entry → Type 0

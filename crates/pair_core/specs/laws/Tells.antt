@@ -6,14 +6,14 @@ use Rattle.guest_machine.specs.Step.{sent}
 use Rattle.frame_ports.specs.{Lands.{has_room, landed_at}, Limits.box_frames}
 use Rattle.pair_history.specs.Entries.{Frame, Entry, Ran, Arrive, DropIn, Land, DropOut}
 use Rattle.pair_history.specs.Failures.{arrived_numbers, drops_of_taken_in, rising}
-use Rattle.pair_history.specs.{HistoryState.HistoryState, Landings.landings}
+use Rattle.pair_history.specs.{HistoryState.HistoryState, Landings.landings, laws.Leaving.TakesNone}
 use Rattle.pair_record.specs.{declared.event.Event.Event, declared.event.Event.TheVariants.Deliver, declared.event.Refusal.Refusal}
 use Rattle.pair_record.specs.{declared.event.Refusal.TheVariants.Full, Journal.{Journal, joined, first_of, kept_entries}, Modes.is_alone}
 use Rattle.pair_record.specs.Protocol.{Record, live_at, shown_at, outbox_of, step_entries, all_held, let_go, live_entries}
 use Rattle.pair_core.specs.Pair.{is_of_guest}
 use Rattle.pair_core.specs.Service.{is_call, Tells}
 use Rattle.pair_core.specs.Lines.{Lines}
-use Rattle.pair_core.proofs.Ends.{Ends, ChangesNothing, at_once}
+use Rattle.pair_core.specs.laws.Ends.{Ends, ChangesNothing, at_once}
 use Rattle.pair_record.specs.declared.event.Reply.TheVariants as replies
 
 -- ENTRIES THAT TELL OF NO CALL
@@ -32,6 +32,12 @@ guest-quiet : (e : Entry) → OfGuest e → Quiet e
 guest-quiet Ran p = refl
 guest-quiet (Arrive n) p = refl
 guest-quiet other p = absurd (cc)
+
+-- it takes no frame off those that are on their way
+pub takes-none : (e : Entry) → OfGuest e → TakesNone e
+takes-none Ran p c s = refl
+takes-none (Arrive n) p c s = refl
+takes-none other p c s = absurd (cc)
 
 all_guest-quiet : (es : List Entry) → All OfGuest es → All Quiet es
 all_guest-quiet es p k d within = guest-quiet (get_or es k d) (p k d within)

@@ -1,31 +1,29 @@
--- What the public calls say, from what each event does.
-use Rattle.std.proofs.Common.{◌≡◌, ℕ, List, [], ◌∷◌, ◌++◌, sym, ap, ◌∙◌, append_assoc, Bool, true, false, Option, refl, None, Some, inl}
-use Rattle.std.proofs.{Common.{inr, Result, Ok, Err, OnErr, subst, arith, ◌<◌, length}, lemmas.Bool.Decides.nat_tests}
-use Rattle.std.proofs.{lemmas.List.append_cancel_left, lemmas.List.Elements.{All-nil, All-cons}}
-use Rattle.std.specs.Prelude.{map, slice_get, IfOk, All}
-use Rattle.memory_wanted.specs.{Wanted.wanted, declared.MemoryWanted.MemoryWanted}
+-- What an event may drop and let out, however it is answered.
+use Rattle.std.proofs.Common.{◌≡◌, ℕ, List, [], ◌∷◌, ◌++◌, sym, ap, ◌∙◌, Bool, true, false, Option, refl, None, Some}
+use Rattle.std.proofs.{Common.{subst, arith, ◌<◌, length}, lemmas.Bool.Decides.nat_tests}
+use Rattle.std.proofs.{lemmas.List.append_cancel_left, lemmas.List.Elements.{All-nil}}
+use Rattle.std.specs.Prelude.{map, slice_get, get_or, All}
 use Rattle.guest_machine.specs.Step.{sent}
 use Rattle.frame_ports.specs.Lands.{list_of}
-use Rattle.pair_history.specs.Entries.{Frame, Entry, Ran, Arrive, DropOut, Took, Begins}
+use Rattle.pair_history.specs.Entries.{Frame, Entry, Arrive, DropOut, Took}
 use Rattle.pair_history.specs.{HistoryState.HistoryState, Landings.{DropsAtFull, DropsNone}}
 use Rattle.pair_history.specs.Leaving.{LeaveInOrder, NotGivenUp, leaves_by, frames_left}
-use Rattle.pair_history.specs.Moves.{Move, Steps, Arrives, entries_of}
+use Rattle.pair_history.specs.Moves.{Move, entries_of}
 use Rattle.pair_history.specs.laws.GoingLive.{go_live_leaves}
-use Rattle.pair_history.specs.laws.Leaving.{TakesNone, none_leave}
+use Rattle.pair_history.specs.laws.Leaving.{none_leave}
 use Rattle.pair_history.specs.laws.Moves.{DropsNone-moves}
 use Rattle.pair_record.specs.{declared.event.Event.Event, declared.event.Event.TheVariants.{Step, FailBackup}}
 use Rattle.pair_record.specs.declared.event.Refusal.{Refusal}
-use Rattle.pair_record.specs.{declared.event.Refusal.TheVariants.NoMemory, declared.event.Reply.Reply}
-use Rattle.pair_core.specs.Answering.{AnswersEvent, MayWantMemory}
+use Rattle.pair_record.specs.declared.event.Reply.{Reply}
+use Rattle.pair_core.specs.Answering.{AnswersEvent}
 use Rattle.pair_record.specs.{Journal.{first_of, kept_entries}, Modes.is_alone}
 use Rattle.pair_core.specs.{Drops.{DropsOnly, LetsOut, Drops}, Invariant.Holds}
-use Rattle.pair_record.specs.{Protocol.{outcome, step_entries}, Record.IsRecord}
+use Rattle.pair_record.specs.{Protocol.step_entries, Record.IsRecord}
 use Rattle.pair_core.specs.Pair.{Pair, shown_state, live_state}
 use Rattle.pair_record.specs.laws.Alone.{step_drops, failure_drops}
 use Rattle.pair_record.specs.laws.{Clients.{ack_lands, ack_leaves}, Live.{all_clients, all_fit}}
-use Rattle.pair_core.proofs.Ends.{Ends, answers_end, at_once}
-use Rattle.pair_core.specs.laws.Lines.{below_at}
-use Rattle.pair_core.specs.Lines.{Protocol, got, lines_after}
+use Rattle.pair_core.specs.laws.{Consistent.of_guest, Ends.{Ends, answers_end, at_once}, Lines.below_at, Tells.takes-none}
+use Rattle.pair_core.specs.Lines.{Protocol}
 use Rattle.std.proofs.lemmas.Option.{slice_get_within}
 use Rattle.pair_record.specs.declared.event.Reply.TheVariants as replies
 
@@ -98,14 +96,11 @@ module _ (w : Pair) (h : Holds w) (k : IsRecord w.protocol.state) where
   refused-lets other why = none_out
 
   -- what the guest did lets nothing out
-  guests-none : (ms : List Move) → All TakesNone (entries_of ms)
-  guests-none [] = All-nil TakesNone
-  guests-none (Steps ∷ ms) = All-cons TakesNone Ran (entries_of ms) (λ c s. refl) (guests-none ms)
-  guests-none (Arrives n f ∷ ms) = All-cons TakesNone (Arrive n) (entries_of ms) (λ c s. refl) (guests-none ms)
-
   epoch-none : (mss : List (List Move)) (ess : List (List Entry)) → ess ≡ map entries_of mss → LeaveInOrder s (first_of ess) []
   epoch-none [] ess e = rw e none_out
-  epoch-none (ms ∷ mss) ess e = rw e (none_leave s (entries_of ms) (guests-none ms))
+  epoch-none (ms ∷ mss) ess e =
+      let es = entries_of ms in
+      rw e (none_leave s es (λ k d l. takes-none (get_or es k d) (of_guest ms k d l)))
 
   -- nor does a frame that lay in the box
   boxed-none : (c place d : ℕ) → place < length (list_of boxes c) → leaves_by d s (DropOut c place) ≡ []
@@ -152,40 +147,11 @@ module _ (w : Pair) (h : Holds w) (k : IsRecord w.protocol.state) where
       admit-lets c n false is = none_out
       admit-lets c n true is = λ d. (refl, All-nil NotGivenUp)
 
-  pub answers_drop : (event : Event) (reply : Reply) (new : Protocol) → AnswersEvent w.start w.protocol event reply new
+  pub answers_drop_what_they_may : (event : Event) (reply : Reply) (new : Protocol) → AnswersEvent w.start w.protocol event reply new
       → Drops w.start w.protocol event reply new
-  answers_drop event reply new a =
+  answers_drop_what_they_may event reply new a =
       let grown = answers_end w.start w.protocol.state w.protocol.lines _ drops_all event reply new.state a.0 in
       let out = answers_end w.start w.protocol.state w.protocol.lines _ lets_all event reply new.state a.0 in
       let same : out.0 ≡ grown.0 = append_cancel_left w.protocol.state.journal.history out.0 grown.0 (sym out.1 ∙ grown.1) in
       let lets = subst (λ es. LetsOut w.start w.protocol.state event reply es) same out.2 in
       record { answers = a; entries = grown.0; grows = grown.1; only = grown.2; lets = lets }
-
-pub Begins-trans : (a b c : List Entry) → Begins a b → Begins b c → Begins a c
-Begins-trans a b c p q = (p.0 ++ q.0, q.1 ∙ ap (λ t. t ++ q.0) p.1 ∙ append_assoc a p.0 q.0)
-
--- what an event did, as a reply
-
-module _ (old new : Pair) (event : Event) (o : Result Reply MemoryWanted) (reply : Reply)
-    (ok : IfOk o (λ r. reply ≡ r))
-    (err : OnErr o (reply ≡ replies.Refused (NoMemory wanted))) where
-  pub answers_by_outcome : IfOk o (λ r. (r, new.protocol.state)
-      ≡ outcome old.start old.protocol.state (got old.protocol.lines event) event)
-      → OnErr o (MayWantMemory old.protocol.state (outcome old.start old.protocol.state (got old.protocol.lines event) event))
-      → IfOk o (λ r. new.protocol.lines ≡ lines_after old.protocol r) → OnErr o (new ≡ old)
-      → AnswersEvent old.start old.protocol event reply new.protocol
-  answers_by_outcome = by_result o ok err
-    where
-      by_result : (o : Result Reply MemoryWanted) → IfOk o (λ r. reply ≡ r) → OnErr o (reply ≡ replies.Refused (NoMemory wanted))
-          → IfOk o (λ r. (r, new.protocol.state) ≡ outcome old.start old.protocol.state (got old.protocol.lines event) event)
-          → OnErr o (MayWantMemory old.protocol.state (outcome old.start old.protocol.state (got old.protocol.lines event) event))
-          → IfOk o (λ r. new.protocol.lines ≡ lines_after old.protocol r) → OnErr o (new ≡ old)
-          → AnswersEvent old.start old.protocol event reply new.protocol
-      by_result (Ok r) k e d m l f = (
-        inl (ap (λ (x : Reply). (x, new.protocol.state)) k ∙ d),
-        l ∙ ap (lines_after old.protocol) (sym k),
-      )
-      by_result (Err x) k e d m l f = (
-        inr (m, e, ap (λ (w : Pair). w.protocol.state) f),
-        ap (λ (w : Pair). w.protocol.lines) f ∙ ap (lines_after old.protocol) (sym e),
-      )

@@ -1,6 +1,5 @@
 -- What the protocol answers: what an event looks at is what the world has, and its table of refusals decides.
 use Rattle.std.proofs.Common.{rules, ◌≡◌, ℕ, ◌≤◌, List, [], ◌∷◌, length, refl, sym, ap, ◌∙◌, arith, Bool, true, false, Option, None, Some, ◌⊎◌, inl, inr}
-use Rattle.std.proofs.lemmas.Bool.Decides.{nat_tests}
 use Rattle.std.specs.Prelude.{slice_get, IfSome, nat_le, not}
 use Rattle.guest_machine.specs.Step.{next, sent}
 use Rattle.frame_ports.specs.{Lands.list_of, Limits.{inbox_frames, number_limit}}
@@ -16,21 +15,21 @@ use Rattle.pair_record.specs.Protocol.{arrival_refusals, admit_first, admit_done
 use Rattle.pair_record.specs.{Protocol.{delivery_refused, deliver_done, on_deliver}, Record.owed_to}
 use Rattle.pair_core.specs.Answering.{MayWantMemory}
 use Rattle.pair_core.specs.laws.Consistent.{live_is, live_waiting, outbox_is}
+use Rattle.pair_record.specs.laws.Tables.{client_range}
 use Rattle.pair_record.specs.declared.event.Reply.TheVariants as replies
 
 -- a table decides
-pub stops : (r : Record) (rows : List Row) (done : Outcome) (o : Option Refusal) (why : Refusal) → o ≡ first_refusal rows → o ≡ Some why
-    → refused r why ≡ unless r rows done
-stops r rows done o why e f = ap (λ x. or_else x (refused r) done) (sym f ∙ e)
+module _ (r : Record) (rows : List Row) (done : Outcome) where
+  pub refused_by_the_first : (why : Refusal) → first_refusal rows ≡ Some why → refused r why ≡ unless r rows done
+  refused_by_the_first why e = ap (λ o. or_else o (refused r) done) (sym e)
 
-pub goes : (r : Record) (rows : List Row) (done : Outcome) (o : Option Refusal) → o ≡ first_refusal rows → o ≡ None
-    → done ≡ unless r rows done
-goes r rows done o e f = ap (λ x. or_else x (refused r) done) (sym f ∙ e)
+  pub done_if_none_refuses : first_refusal rows ≡ None → done ≡ unless r rows done
+  done_if_none_refuses e = ap (λ o. or_else o (refused r) done) (sym e)
 
-pub all_stop : (r : Record) (rows : List Row) (done out : Outcome) (o : Option Refusal) → o ≡ first_refusal rows → unless r rows done ≡ out
-    → IfSome o (λ why. refused r why ≡ out)
-all_stop r rows done out None e f = tt
-all_stop r rows done out (Some why) e f = stops r rows done (Some why) why e refl ∙ f
+  pub refused_if_one_refuses : (out : Outcome) (o : Option Refusal) → o ≡ first_refusal rows → unless r rows done ≡ out
+      → IfSome o (λ why. refused r why ≡ out)
+  refused_if_one_refuses out None e f = tt
+  refused_if_one_refuses out (Some why) e f = refused_by_the_first why (sym e) ∙ f
 
 -- an empty list has no first element, another has one
 pub no_first : {A : Type 0} (xs : List A) → length xs ≡ 0 → slice_get xs 0 ≡ None
@@ -40,10 +39,6 @@ no_first (x ∷ xs) e = absurd (omega arith)
 pub some_first : {A : Type 0} (xs : List A) → (length xs ≡ 0 → ⊥) → (x : A) × (slice_get xs 0 ≡ Some x)
 some_first [] h = absurd (h refl)
 some_first (x ∷ xs) h = (x, refl)
-
--- a client's number, by a table that didn't refuse it
-pub client_range : (c count : ℕ) → not (is_among c count) ≡ false → (1 ≤ c) × (c ≤ count)
-client_range c count e = grind (arith, nat_tests)
 
 -- WHAT AN EVENT LOOKS AT, as the machines and the ports of a pair say it
 
@@ -60,21 +55,21 @@ seen w = record {
 }
 
 module _ (w : Pair) (h : Holds w) where
-  pub step_sight : on_step (seen w) w.protocol.state ≡ step_outcome w.start w.protocol.state
-  step_sight = search (arith, rules, live_is, outbox_is)
+  pub step_sees_the_pair : on_step (seen w) w.protocol.state ≡ step_outcome w.start w.protocol.state
+  step_sees_the_pair = search (arith, rules, live_is, outbox_is)
 
-  pub cut_sight : on_cut (seen w) w.protocol.state ≡ allowed w.start w.protocol.state None Cut
-  cut_sight = ap (λ (fs : List Frame). unless w.protocol.state (cut_refusals w.protocol.state) (cut_done fs w.protocol.state)) (sym (outbox_is w h))
+  pub cut_sees_the_pair : on_cut (seen w) w.protocol.state ≡ allowed w.start w.protocol.state None Cut
+  cut_sees_the_pair = ap (λ (fs : List Frame). unless w.protocol.state (cut_refusals w.protocol.state) (cut_done fs w.protocol.state)) (sym (outbox_is w h))
 
-  pub fail_backup_sight : on_fail_backup (seen w) w.protocol.state ≡ allowed w.start w.protocol.state None FailBackup
-  fail_backup_sight = search (arith, rules, outbox_is)
+  pub fail_backup_sees_the_pair : on_fail_backup (seen w) w.protocol.state ≡ allowed w.start w.protocol.state None FailBackup
+  fail_backup_sees_the_pair = search (arith, rules, outbox_is)
 
   pub inbox_is : (c : ℕ) → 1 ≤ c → c ≤ length w.ports.boxes → list_of w.ports.inboxes c ≡ inbox_of c (live_state w).waiting
   inbox_is c low high = h.accords.clients.inboxes c low high ∙ ap (inbox_of c) (sym (live_waiting w h))
 
   -- where no client has the number, what would wait of it doesn't count
-  pub admit_sight : (c : ℕ) → on_admit (seen w) w.protocol.state c ≡ allowed w.start w.protocol.state None (Admit c)
-  admit_sight c =
+  pub admit_sees_the_pair : (c : ℕ) → on_admit (seen w) w.protocol.state c ≡ allowed w.start w.protocol.state None (Admit c)
+  admit_sees_the_pair c =
       by_test (not (is_among c (length w.ports.boxes))) refl
       ∙ ap (λ (b : List (List Frame)). on_admit (record (sight w.start w.protocol.state) { boxes = b }) w.protocol.state c) h.accords.clients.boxes
     where
@@ -97,9 +92,9 @@ module _ (w : Pair) (h : Holds w) where
       (delivery_refused w.protocol.state c (record { items = bytes }))
       (deliver_done w.protocol.state c (record { items = bytes }) (shown_state w).number)
 
-  pub deliver_sight : (c : ℕ) (bytes : List ℕ)
+  pub deliver_sees_the_pair : (c : ℕ) (bytes : List ℕ)
       → on_deliver (seen w) w.protocol.state c bytes ≡ on_deliver (sight w.start w.protocol.state) w.protocol.state c bytes
-  deliver_sight c bytes =
+  deliver_sees_the_pair c bytes =
       ap (λ (n : ℕ). on_deliver (record (seen w) { number = n }) w.protocol.state c bytes) h.accords.clients.number
       ∙ by_test (not (is_among c (length w.ports.boxes))) refl
       ∙ ap (λ (b : List (List Frame)). on_deliver (record (sight w.start w.protocol.state) { boxes = b }) w.protocol.state c bytes)
@@ -118,26 +113,33 @@ module _ (w : Pair) (h : Holds w) where
     where
       admits : (o : Option (ℕ × Frame)) → slice_get (list_of w.ports.inboxes c) 0 ≡ o
           → admit_first w.protocol.state o ≡ allowed w.start w.protocol.state None (Admit c)
-      admits o e = search (arith, rules, admit_sight, goes)
+      admits o e =
+          let first = admit_first w.protocol.state (slice_get (list_of w.ports.inboxes c) 0) in
+          ap (admit_first w.protocol.state) (sym e)
+          ∙ done_if_none_refuses w.protocol.state (arrival_refusals (length w.ports.boxes) w.protocol.state c) first (sym is ∙ none)
+          ∙ admit_sees_the_pair c
 
-      pub admit_empty : length (list_of w.ports.inboxes c) ≡ 0 → (replies.Empty, w.protocol.state) ≡ allowed w.start w.protocol.state None (Admit c)
-      admit_empty e = admits None (no_first (list_of w.ports.inboxes c) e)
+      pub admit_finds_none : length (list_of w.ports.inboxes c) ≡ 0 → (replies.Empty, w.protocol.state) ≡ allowed w.start w.protocol.state None (Admit c)
+      admit_finds_none e = admits None (no_first (list_of w.ports.inboxes c) e)
 
       module _ (some : length (list_of w.ports.inboxes c) ≡ 0 → ⊥)
           (o : Option Refusal) (row : o ≡ first_refusal (admit_refusals w.protocol.state)) where
-        pub admit_stops : (why : Refusal) → o ≡ Some why → refused w.protocol.state why ≡ allowed w.start w.protocol.state None (Admit c)
-        admit_stops why e =
+        pub admit_is_refused : (why : Refusal) → o ≡ Some why → refused w.protocol.state why ≡ allowed w.start w.protocol.state None (Admit c)
+        admit_is_refused why e =
             let first = some_first (list_of w.ports.inboxes c) some in
-            stops w.protocol.state (admit_refusals w.protocol.state) (admit_done w.protocol.state first.0.0) o why row e ∙ admits (Some first.0) first.1
+            refused_by_the_first w.protocol.state (admit_refusals w.protocol.state) (admit_done w.protocol.state first.0.0) why (sym row ∙ e)
+            ∙ admits (Some first.0) first.1
 
-        pub admit_goes : (n : ℕ) (f : Frame) → slice_get (list_of w.ports.inboxes c) 0 ≡ Some (n, f) → o ≡ None
+        pub admit_is_done : (n : ℕ) (f : Frame) → slice_get (list_of w.ports.inboxes c) 0 ≡ Some (n, f) → o ≡ None
             → admit_done w.protocol.state n ≡ allowed w.start w.protocol.state None (Admit c)
-        admit_goes n f first e = goes w.protocol.state (admit_refusals w.protocol.state) (admit_done w.protocol.state n) o row e ∙ admits (Some (n, f)) first
+        admit_is_done n f first e =
+            done_if_none_refuses w.protocol.state (admit_refusals w.protocol.state) (admit_done w.protocol.state n) (sym row ∙ e)
+            ∙ admits (Some (n, f)) first
 
-        pub admit_wants : o ≡ None → MayWantMemory w.protocol.state (allowed w.start w.protocol.state None (Admit c))
-        admit_wants e =
+        pub admit_may_want : o ≡ None → MayWantMemory w.protocol.state (allowed w.start w.protocol.state None (Admit c))
+        admit_may_want e =
             let first = some_first (list_of w.ports.inboxes c) some in
-            rw (← admit_goes first.0.0 first.0.1 first.1 e) tt
+            rw (← admit_is_done first.0.0 first.0.1 first.1 e) tt
 
   -- DELIVER, by its table
   module _ (c : ℕ) (bytes : List ℕ) where
@@ -148,20 +150,20 @@ module _ (w : Pair) (h : Holds w) where
         → or_else o (delivery_refused w.protocol.state c (record { items = bytes }))
         (deliver_done w.protocol.state c (record { items = bytes }) w.ports.next)
         ≡ on_deliver (sight w.start w.protocol.state) w.protocol.state c bytes
-    by_table o e = search (arith, rules, deliver_sight)
+    by_table o e = search (arith, rules, deliver_sees_the_pair)
 
-    pub deliver_goes : first_refusal rows ≡ None → deliver_done w.protocol.state c (record { items = bytes }) w.ports.next
+    pub delivery_is_done : first_refusal rows ≡ None → deliver_done w.protocol.state c (record { items = bytes }) w.ports.next
         ≡ on_deliver (sight w.start w.protocol.state) w.protocol.state c bytes
-    deliver_goes = by_table None
+    delivery_is_done = by_table None
 
-    pub deliver_stops : (why : Refusal) → first_refusal rows ≡ Some why → delivery_refused w.protocol.state c (record { items = bytes }) why
+    pub delivery_is_refused : (why : Refusal) → first_refusal rows ≡ Some why → delivery_refused w.protocol.state c (record { items = bytes }) why
         ≡ on_deliver (sight w.start w.protocol.state) w.protocol.state c bytes
-    deliver_stops why = by_table (Some why)
+    delivery_is_refused why = by_table (Some why)
 
-    pub deliver_wants : (first_refusal rows ≡ None) ⊎ (first_refusal rows ≡ Some Full)
+    pub delivery_may_want : (first_refusal rows ≡ None) ⊎ (first_refusal rows ≡ Some Full)
         → MayWantMemory w.protocol.state (on_deliver (sight w.start w.protocol.state) w.protocol.state c bytes)
-    deliver_wants (inl none) = rw (← deliver_goes none) tt
-    deliver_wants (inr full) = rw (← deliver_stops Full full) refl
+    delivery_may_want (inl none) = rw (← delivery_is_done none) tt
+    delivery_may_want (inr full) = rw (← delivery_is_refused Full full) refl
 
   -- a refusal that left all as it was
   pub after_none : (why : Refusal) → AfterRefusal why w w

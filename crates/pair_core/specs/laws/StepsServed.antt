@@ -23,8 +23,8 @@ use Rattle.pair_record.specs.{GuestActs.frame_after_step, Protocol.{step_done, s
 use Rattle.pair_core.specs.{Runs.{StepsAnswerIn, goes_on, steps_outcome}, Service.{moment, Serves, HasServed, is_step, ServesSteps}}
 use Rattle.pair_core.specs.laws.Consistent.{lone}
 use Rattle.pair_core.specs.laws.Along.{along-more}
-use Rattle.pair_core.proofs.{Ends.by_table, ServiceLaws.serves_at}
-use Rattle.pair_core.proofs.{StepRuns.{no-steps-answered, more-answered, refused_stays}, Tells.OfGuest}
+use Rattle.pair_core.specs.laws.{Ends.by_table, Serves.one_event_serves_at}
+use Rattle.pair_core.specs.laws.{Steps.{no-steps-answered, more-answered, refused_stays}, Tells.OfGuest}
 use Rattle.pair_record.specs.declared.event.Reply.TheVariants as replies
 
 module _ (start : HistoryState) where
@@ -82,7 +82,7 @@ module _ (start : HistoryState) where
         let drops : Drops start (bare r) Step (replies.Steps (next g).steps) (bare (done false)) =
         record { answers = (inl e, refl); entries = []; grows = sym (append-nil r.journal.history); only = tt; lets = λ two. none_out } in
         record {
-          serves = serves_at start (bare r) (bare (done false)) g _ Step (replies.Steps (next g).steps) drops h.moves (λ a. (h.lone a).0) legal moves refl;
+          serves = one_event_serves_at start (bare r) (bare (done false)) g _ Step (replies.Steps (next g).steps) drops h.moves (λ a. (h.lone a).0) legal moves refl;
           good = record { legal = legal; moves = moves; fit = h.fit; lone = λ a. absurd (cc) };
           count = ap (λ t. (at start t).guest.steps) whole ∙ ap (λ (t : HistoryState). t.guest.steps) (at-append start all (Ran ∷ []));
         }
@@ -111,7 +111,7 @@ module _ (start : HistoryState) where
         let shown : shown_at start (done true) ≡ record t { out = []; boxes = lands b ps } =
         at-append start j.history (Ran ∷ es) ∙ land.1 in
         record {
-          serves = serves_at start (bare r) (bare (done true)) g _ Step (replies.Steps (next g).steps) drops h.moves (λ a. (h.lone a).0) legal h.moves refl;
+          serves = one_event_serves_at start (bare r) (bare (done true)) g _ Step (replies.Steps (next g).steps) drops h.moves (λ a. (h.lone a).0) legal h.moves refl;
           good = record {
             legal = legal;
             moves = h.moves;
@@ -162,7 +162,7 @@ module _ (start : HistoryState) where
     one_refused why a =
         let drops : Drops start (bare r) Step (replies.Refused why) (bare r) =
         record { answers = (a, refl); entries = []; grows = sym (append-nil r.journal.history); only = tt; lets = λ two. none_out } in
-        serves_at start (bare r) (bare r) g g Step (replies.Refused why) drops h.moves (λ a. (h.lone a).0) h.legal h.moves refl
+        one_event_serves_at start (bare r) (bare r) g g Step (replies.Refused why) drops h.moves (λ a. (h.lone a).0) h.legal h.moves refl
 
   -- SO MANY STEPS
 
@@ -367,10 +367,10 @@ module _ (w v : Pair) (count : ℕ) (reply : Reply) (start : v.start ≡ w.start
       early ended.tried ended.count why ended.less ended.before ended.refusal
   by_reply other is e = absurd is
 
-  pub serves_steps : StepsAnswerIn w.start w.protocol.state count reply v.protocol.state → ServesSteps w.start (moment w) count reply (moment v)
-  serves_steps (inl e) =
+  pub steps_serve : StepsAnswerIn w.start w.protocol.state count reply v.protocol.state → ServesSteps w.start (moment w) count reply (moment v)
+  steps_serve (inl e) =
       by_reply reply (subst (λ (o : Outcome). IsStepAnswer w.start o.0) (sym e) (steps-answer w.start w.protocol.state count)) e
-  serves_steps (inr k) =
+  steps_serve (inr k) =
       let made = k.2 in
       let a = all_made w.start w.protocol.state good made.0 made.2 v.protocol.state made.3 in
       rw k.1 (early made.0 made.2 (NoMemory wanted) made.1 a

@@ -1,10 +1,10 @@
--- What one event is to the clients, from what the pair knows of it.
-use Rattle.std.proofs.Common.{◌≡◌, List, [], ◌∷◌, ◌++◌, refl, sym, ap, ◌∙◌, inl, inr, subst, true}
+-- What an event and a run are to the clients, from what the pair knows of them.
+use Rattle.std.proofs.Common.{◌≡◌, List, [], ◌∷◌, ◌++◌, refl, sym, ap, ◌∙◌, append_assoc, inl, inr, subst, true}
 use Rattle.std.proofs.lemmas.List.{append-nil, append_cancel_left}
 use Rattle.std.proofs.lemmas.List.Elements.{All-head, All-tail}
 use Rattle.std.specs.Prelude.{All}
 use Rattle.guest_machine.specs.Guest.{Guest}
-use Rattle.pair_history.specs.{Entries.Entry, HistoryState.{HistoryState, after, at, Legal}}
+use Rattle.pair_history.specs.{Entries.{Entry, Begins}, HistoryState.{HistoryState, after, at, Legal}}
 use Rattle.pair_history.specs.laws.Histories.{at-append, Legal-append}
 use Rattle.memory_wanted.specs.Wanted.{wanted}
 use Rattle.pair_record.specs.{declared.event.Event.Event, declared.event.Event.TheVariants.GoLive, declared.event.Refusal.Refusal}
@@ -15,10 +15,10 @@ use Rattle.pair_core.specs.{Calls.Moment, Pair.{Pair, IsConsistent}}
 use Rattle.pair_record.specs.Protocol.{go_live_done, Record, Outcome, refused, first_refusal, shown_at, live_at, live_entries}
 use Rattle.pair_record.specs.Protocol.{go_live_refusals}
 use Rattle.pair_core.specs.{Answering.AnswersIn, Lines.{Lines, Protocol, got}}
-use Rattle.pair_core.specs.Service.{moment, Resumes, Enters, Tells, Serves, guest_entries}
-use Rattle.pair_core.specs.laws.Consistent.{lone}
-use Rattle.pair_core.proofs.{CallLaws.answers_call, EntersLaws.enters_all, Ends.{by_table, answers_end}}
-use Rattle.pair_core.proofs.Tells.{OfGuest, live_all, tells_all}
+use Rattle.pair_core.specs.Service.{moment, Resumes, Enters, Tells, Serves, HasServed, guest_entries}
+use Rattle.pair_core.specs.laws.{Along.along-keeps, Consistent.lone}
+use Rattle.pair_core.specs.laws.{Calls.answers_call, Enters.enters_all, Ends.{by_table, answers_end}}
+use Rattle.pair_core.specs.laws.Tells.{OfGuest, live_all, tells_all}
 use Rattle.pair_record.specs.declared.event.Reply.TheVariants as replies
 
 -- drops leave the guest as it was
@@ -71,12 +71,12 @@ module _ (start : HistoryState) (r new : Record) (g : Guest) (live : g ≡ (live
   answers_resume l other reply a = tt
 
 -- One event serves the clients, as the records before and after it say.
-pub serves_at : (start : HistoryState) (old end : Protocol) (g g' : Guest) (event : Event) (reply : Reply)
+pub one_event_serves_at : (start : HistoryState) (old end : Protocol) (g g' : Guest) (event : Event) (reply : Reply)
     → Drops start old event reply end
     → All OfGuest (kept_entries old.state.journal) → (is_alone old.state.mode ≡ true → kept_entries old.state.journal ≡ [])
     → Legal start (all_entries end.state.journal) → All OfGuest (kept_entries end.state.journal) → g' ≡ (live_at start end.state).guest
     → Serves start (moment_of old.state g) event reply (moment_of end.state g')
-serves_at start old end g g' event reply d kept lone legal moves live =
+one_event_serves_at start old end g g' event reply d kept lone legal moves live =
     let r = old.state in
     let new = end.state in
     let l = old.lines in
@@ -99,13 +99,25 @@ serves_at start old end g g' event reply d kept lone legal moves live =
     }
 
 -- One event serves the clients.
-pub serves : (old new : Pair) (event : Event) (reply : Reply) → new.start ≡ old.start → IsConsistent old → IsConsistent new
+pub one_event_serves : (old new : Pair) (event : Event) (reply : Reply) → new.start ≡ old.start → IsConsistent old → IsConsistent new
     → Drops old.start old.protocol event reply new.protocol → Serves old.start (moment old) event reply (moment new)
-serves old new event reply e before k d =
+one_event_serves old new event reply e before k d =
     let h = new.protocol.state.journal.history in
     let legal : Legal old.start (all_entries new.protocol.state.journal) =
     rw (← e) (Legal-append new.start h (kept_entries new.protocol.state.journal) k.legal k.goes_on) in
     let live : new.nodes.live.guest ≡ (live_at old.start new.protocol.state).guest =
     k.live ∙ ap (λ (s : HistoryState). (live_at s new.protocol.state).guest) e in
-    serves_at old.start old.protocol new.protocol old.nodes.live.guest new.nodes.live.guest event reply d before.kept
+    one_event_serves_at old.start old.protocol new.protocol old.nodes.live.guest new.nodes.live.guest event reply d before.kept
     (λ a. (lone old.protocol.state.mode old a before.mode).kept) legal k.kept live
+
+-- A RUN lets the history only grow.
+
+pub Begins-trans : (a b c : List Entry) → Begins a b → Begins b c → Begins a c
+Begins-trans a b c p q = (p.0 ++ q.0, q.1 ∙ ap (λ t. t ++ q.0) p.1 ∙ append_assoc a p.0 q.0)
+
+pub served_grows : (start : HistoryState) (old new : Moment) (events : List Event) (answers : List Reply)
+    → HasServed start old events answers new → Begins old.history new.history
+served_grows start old new events answers run =
+    along-keeps (Serves start) (λ m. Begins old.history m.history)
+    (λ event reply m n one begins. Begins-trans old.history m.history n.history begins (one.added, one.grows))
+    events answers old new run ([], sym (append-nil old.history))

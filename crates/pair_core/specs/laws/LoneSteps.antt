@@ -3,7 +3,6 @@ use Rattle.std.proofs.Common.{rules, ◌≡◌, ℕ, zero, suc, ◌+◌, ◌-◌
 use Rattle.std.proofs.Common.{arith, append_assoc, Bool, true, false, cond, inl, inr, Result, Ok, Err}
 use Rattle.std.proofs.lemmas.List.{append-nil, length-append, length-replicate}
 use Rattle.guest_machine.specs.{Guest.Guest, Step.{next, sent}, Runs.{after_steps, sent_in}}
-use Rattle.guest_machine.proofs.RunLemmas.{after_steps-last, no_steps, none_sent, sent_in-last}
 use Rattle.std.specs.Prelude.{nat_lt, ◌&&◌}
 use Rattle.frame_ports.specs.{Addresses.targets_of, Limits.number_limit}
 use Rattle.pair_history.specs.{Entries.{Frame, Ran}, HistoryState.HistoryState, Landings.landings}
@@ -16,7 +15,8 @@ use Rattle.pair_core.specs.{Pair.Pair, Answering.{AnswersEvent, step_reply}, Lin
 use Rattle.pair_core.specs.Runs.{StepsAnswer, goes_on, steps_outcome}
 use Rattle.pair_record.specs.laws.Modes.{alone_not_stopped}
 use Rattle.pair_core.specs.laws.{AllLands.at_once_holds, Consistent.{live_is, alone_is}}
-use Rattle.pair_core.proofs.StepRuns.{steps_stand, step_goes, no-steps-answered, more-answered, replicate-last, one-step-answered}
+use Rattle.pair_core.specs.laws.Steps.{steps_stand, step_is_done, no-steps-answered, more-answered, one-step-answered}
+use Rattle.pair_core.specs.laws.Steps.{guest-steps, frames-steps, last-step, last-frames, replicate-last}
 use Rattle.pair_record.specs.declared.event.Reply.TheVariants as replies
 
 both_empty : {A : Type 0} (xs ys : List A) → xs ++ ys ≡ [] → (xs ≡ []) × (ys ≡ [])
@@ -28,8 +28,8 @@ module _ (w : Pair) where
   boxes = w.ports.boxes
 
   -- the pair after n steps in which these frames were sent, and landed
-  abbrev pub after_alone : ℕ → List Frame → Pair
-  after_alone n fs = record w {
+  abbrev pub after_lone_steps : ℕ → List Frame → Pair
+  after_lone_steps n fs = record w {
     protocol = record w.protocol {
       state = record w.protocol.state {
         journal = with_history w.protocol.state.journal (replicate n Ran ++ landings boxes (targets_of (length boxes) fs));
@@ -44,8 +44,8 @@ module _ (w : Pair) where
     none : w.nodes.live.outbox ≡ []
     none = (alone_is w h k).outbox
 
-    pub alone_holds : (n : ℕ) → Holds (after_alone n (sent_in n w.nodes.live.guest))
-    alone_holds n =
+    pub lone_steps_hold : (n : ℕ) → Holds (after_lone_steps n (sent_in n w.nodes.live.guest))
+    lone_steps_hold n =
         let live = (after_run n w.nodes).live in
         let fs = sent_in n w.nodes.live.guest in
         let all : live.outbox ≡ fs = ap (λ (t : List Frame). t ++ fs) none in
@@ -53,10 +53,10 @@ module _ (w : Pair) where
 
     -- quiet steps: none of them sends a frame
     abbrev quiet : ℕ → Pair
-    quiet n = after_alone n []
+    quiet n = after_lone_steps n []
 
     quiet-holds : (n : ℕ) → sent_in n w.nodes.live.guest ≡ [] → Holds (quiet n)
-    quiet-holds n e = subst (λ (x : List Frame). Holds (after_alone n x)) e (alone_holds n)
+    quiet-holds n e = subst (λ (x : List Frame). Holds (after_lone_steps n x)) e (lone_steps_hold n)
 
     -- one more step, after quiet ones
     module _ (n : ℕ) (silent : sent_in n w.nodes.live.guest ≡ [])
@@ -77,14 +77,14 @@ module _ (w : Pair) where
       step_next =
           let c = counted in
           let room : step_room w.protocol.state.mode ≡ 1025 = ap (λ (b : Bool). cond b lone_step_entries 1) lone in
-          step_goes (quiet n) (quiet-holds n silent) (alone_not_stopped w.protocol.state.mode lone) (omega arith) (omega arith) quiet_numbers
+          step_is_done (quiet n) (quiet-holds n silent) (alone_not_stopped w.protocol.state.mode lone) (omega arith) (omega arith) quiet_numbers
 
-      step_makes : (replies.Steps (after_steps (suc n) w.nodes.live.guest).steps, (after_alone (suc n) (sent g)).protocol.state)
+      step_makes : (replies.Steps (after_steps (suc n) w.nodes.live.guest).steps, (after_lone_steps (suc n) (sent g)).protocol.state)
           ≡ step_done boxes (sent g) (next g).steps (quiet n).protocol.state
-      step_makes = search (arith, rules, after_steps-last, append-nil, append_assoc, replicate-last)
+      step_makes = search (arith, rules, last-step, append-nil, append_assoc, replicate-last)
 
       one_more : (replies.Steps g.steps, (quiet n).protocol.state) ≡ steps_outcome w.start w.protocol.state n
-          → (replies.Steps (after_steps (suc n) w.nodes.live.guest).steps, (after_alone (suc n) (sent g)).protocol.state)
+          → (replies.Steps (after_steps (suc n) w.nodes.live.guest).steps, (after_lone_steps (suc n) (sent g)).protocol.state)
           ≡ steps_outcome w.start w.protocol.state (suc n)
       one_more before =
           step_makes ∙ step_next ∙ ap (λ (o : Outcome). goes_on w.start o.0 o.1) before ∙ sym (more-answered w.start w.protocol.state n)
@@ -93,22 +93,22 @@ module _ (w : Pair) where
     quiet_answered : (n : ℕ) → sent_in n w.nodes.live.guest ≡ [] → length (all_entries w.protocol.state.journal) + (n + 1024) < number_limit
         → frames_run_out w.protocol.state ≡ false
         → (replies.Steps (after_steps n w.nodes.live.guest).steps, (quiet n).protocol.state) ≡ steps_outcome w.start w.protocol.state n
-    quiet_answered zero e fits numbers = search (arith, rules, append-nil, live_is, no_steps, no-steps-answered)
+    quiet_answered zero e fits numbers = search (arith, rules, append-nil, live_is, guest-steps, no-steps-answered)
     quiet_answered (suc n) e fits numbers =
         let parts = both_empty (sent_in n w.nodes.live.guest) (sent (after_steps n w.nodes.live.guest))
-        (sym (sent_in-last n w.nodes.live.guest) ∙ e) in
+        (sym (last-frames n w.nodes.live.guest) ∙ e) in
         let before = quiet_answered n parts.0 (omega arith) numbers in
         subst
-        (λ (fs : List Frame). (replies.Steps (after_steps (suc n) w.nodes.live.guest).steps, (after_alone (suc n) fs).protocol.state)
+        (λ (fs : List Frame). (replies.Steps (after_steps (suc n) w.nodes.live.guest).steps, (after_lone_steps (suc n) fs).protocol.state)
         ≡ steps_outcome w.start w.protocol.state (suc n)) parts.1 (one_more n parts.0 (omega arith) numbers before)
 
     -- so many steps of which only the last sends frames
-    pub alone_answered : (n : ℕ) → sent_in (n - 1) w.nodes.live.guest ≡ []
+    pub lone_steps_answered : (n : ℕ) → sent_in (n - 1) w.nodes.live.guest ≡ []
         → length (all_entries w.protocol.state.journal) + (n + 1024) < number_limit → frames_run_out w.protocol.state ≡ false
-        → (replies.Steps (after_steps n w.nodes.live.guest).steps, (after_alone n (sent_in n w.nodes.live.guest)).protocol.state)
+        → (replies.Steps (after_steps n w.nodes.live.guest).steps, (after_lone_steps n (sent_in n w.nodes.live.guest)).protocol.state)
         ≡ steps_outcome w.start w.protocol.state n
-    alone_answered zero e fits numbers = search (arith, rules, none_sent, quiet_answered)
-    alone_answered (suc n) e fits numbers = search (arith, rules, one_more, quiet_answered, sent_in-last)
+    lone_steps_answered zero e fits numbers = search (arith, rules, frames-steps, quiet_answered)
+    lone_steps_answered (suc n) e fits numbers = search (arith, rules, one_more, quiet_answered, last-frames)
 
 -- steps after steps
 module _ (start : HistoryState) (r r' : Record) (m k : ℕ) (made : (replies.Steps k, r') ≡ steps_outcome start r m) where
@@ -135,13 +135,13 @@ lines_stay old new (Ok count) same = same
 lines_stay old new (Err why) same = same
 
 module _ (start : HistoryState) (old new : Protocol) (answer : Result ℕ Refusal) where
-  pub paired_answer : (step_reply answer, new.state) ≡ steps_outcome start old.state 1 → new.lines ≡ old.lines
+  pub paired_step_answered : (step_reply answer, new.state) ≡ steps_outcome start old.state 1 → new.lines ≡ old.lines
       → AnswersEvent start old Step (step_reply answer) new
-  paired_answer e same = (inl (e ∙ one-step-answered start old.state), lines_stay old new answer same)
+  paired_step_answered e same = (inl (e ∙ one-step-answered start old.state), lines_stay old new answer same)
 
-  pub alone_answer : StepsAnswer start old 1 (step_reply answer) new → AnswersEvent start old Step (step_reply answer) new
-  alone_answer (inl e, same) = paired_answer e same
-  alone_answer (inr k, same) =
+  pub lone_step_answered : StepsAnswer start old 1 (step_reply answer) new → AnswersEvent start old Step (step_reply answer) new
+  lone_step_answered (inl e, same) = paired_step_answered e same
+  lone_step_answered (inr k, same) =
       let made = k.2 in
       let less = made.1 in
       let first : made.0 ≡ 0 = omega arith in

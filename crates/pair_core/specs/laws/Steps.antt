@@ -1,10 +1,9 @@
--- What so many steps of the guest leave, and what the protocol answers to them.
+-- So many steps of the guest: what they leave, and what the protocol answers to them.
 use Rattle.std.proofs.Common.{rules, ◌≡◌, ℕ, zero, suc, ◌+◌, ◌<◌, ◌≤◌, List, [], ◌∷◌, ◌++◌, length, replicate, refl, sym, ap, ◌∙◌, subst}
 use Rattle.std.proofs.Common.{arith, append_assoc, Bool, true, false, cond, Option, None, Some, Result, Ok, Err, OnErr}
 use Rattle.std.proofs.{lemmas.Bool.{le-ltb, Decides.nat_tests}, lemmas.List.{append-nil, length-append, length-replicate}}
 use Rattle.std.specs.Prelude.{nat_lt, ◌&&◌}
 use Rattle.guest_machine.specs.{Guest.Guest, Step.{next, sent}, Runs.{after_steps, sent_in, marked_in, HaveRoom}}
-use Rattle.guest_machine.proofs.RunLemmas.{after_steps-last, no_steps, none_sent}
 use Rattle.frame_ports.specs.Limits.{number_limit}
 use Rattle.pair_history.specs.{Entries.{Frame, Ran}, HistoryState.HistoryState}
 use Rattle.pair_history.specs.Moves.{Steps, guest_along, frames_along}
@@ -21,8 +20,8 @@ use Rattle.pair_record.specs.Accords.{left_now}
 use Rattle.pair_core.specs.laws.{Consistent.live_is, Events.{moves_stand, two_hold}, Nodes.{shape-after_steps, base-after_run}}
 use Rattle.pair_record.specs.Joined.{length-all}
 use Rattle.std.proofs.lemmas.Bool.{lt-leb}
-use Rattle.pair_history.specs.laws.Moves.{entries-steps, can-steps, left-steps}
-use Rattle.pair_core.proofs.Outcomes.{goes, step_sight}
+use Rattle.pair_history.specs.laws.Moves.{entries-steps, can-steps, left-steps, guest_along-append, frames_along-append}
+use Rattle.pair_core.specs.laws.Outcomes.{done_if_none_refuses, step_sees_the_pair}
 use Rattle.pair_record.specs.declared.event.Reply.TheVariants as replies
 
 -- Runs of the guest alone
@@ -44,15 +43,34 @@ room-before (suc n) g o room = (room.0, room-before n (next g) (o ++ sent g) roo
 
 -- They are moves
 
-guest-steps : (n : ℕ) (g : Guest) → after_steps n g ≡ guest_along g (replicate n Steps)
+pub guest-steps : (n : ℕ) (g : Guest) → after_steps n g ≡ guest_along g (replicate n Steps)
 unfolding after_steps
 guest-steps zero g = refl
 guest-steps (suc n) g = guest-steps n (next g)
 
-frames-steps : (n : ℕ) (g : Guest) → sent_in n g ≡ frames_along g (replicate n Steps)
+pub frames-steps : (n : ℕ) (g : Guest) → sent_in n g ≡ frames_along g (replicate n Steps)
 unfolding sent_in
 frames-steps zero g = refl
 frames-steps (suc n) g = ap (λ t. sent g ++ t) (frames-steps n (next g))
+
+pub replicate-last : {A : Type 0} (x : A) (n : ℕ) → replicate (suc n) x ≡ replicate n x ++ x ∷ []
+replicate-last x zero = refl
+replicate-last x (suc n) = ap (λ t. x ∷ t) (replicate-last x n)
+
+-- so the last of them follows those before it
+pub last-step : (n : ℕ) (g : Guest) → after_steps (suc n) g ≡ next (after_steps n g)
+last-step n g =
+    guest-steps (suc n) g
+    ∙ ap (guest_along g) (replicate-last Steps n)
+    ∙ guest_along-append g (replicate n Steps) (Steps ∷ [])
+    ∙ ap next (sym (guest-steps n g))
+
+pub last-frames : (n : ℕ) (g : Guest) → sent_in (suc n) g ≡ sent_in n g ++ sent (after_steps n g)
+last-frames n g =
+    frames-steps (suc n) g
+    ∙ ap (frames_along g) (replicate-last Steps n)
+    ∙ frames_along-append g (replicate n Steps) (Steps ∷ [])
+    ∙ (λ i. sym (frames-steps n g) i ++ append-nil (sent (sym (guest-steps n g) i)) i)
 
 -- What they leave
 
@@ -71,12 +89,8 @@ steps_stand n w h =
 pub steps_hold : (n : ℕ) (w : Pair) → is_alone w.protocol.state.mode ≡ false → Holds w → Holds (with_steps n w)
 steps_hold n w two h = two_hold (with_steps n w) two (steps_stand n w h)
 
-pub replicate-last : (n : ℕ) → replicate (suc n) Ran ≡ replicate n Ran ++ Ran ∷ []
-replicate-last zero = refl
-replicate-last (suc n) = ap (λ t. Ran ∷ t) (replicate-last n)
-
 pub with_no_steps : (w : Pair) → with_steps 0 w ≡ w
-with_no_steps w = search (arith, rules, append-nil, no_steps, none-marked, none_sent)
+with_no_steps w = search (arith, rules, append-nil, guest-steps, none-marked, frames-steps)
 
 -- each step is one entry more
 pub steps-counted : (n : ℕ) (w : Pair) → length (all_entries (with_steps n w).protocol.state.journal) ≡ length (all_entries w.protocol.state.journal)
@@ -109,15 +123,15 @@ none_applies r outbox runs few room numbers =
     (cond (lt-leb number_limit (length (all_entries r.journal) + step_room r.mode) room i)
     (Some Exhausted) (cond (numbers i) (Some Exhausted) None)))
 
-pub step_goes : (w : Pair) → Holds w → is_stopped w.protocol.state.mode ≡ false → length w.nodes.live.outbox ≤ 192
+pub step_is_done : (w : Pair) → Holds w → is_stopped w.protocol.state.mode ≡ false → length w.nodes.live.outbox ≤ 192
     → length (all_entries w.protocol.state.journal) + step_room w.protocol.state.mode < number_limit
     → (is_alone w.protocol.state.mode && frames_run_out w.protocol.state) ≡ false
     → step_done w.ports.boxes (sent w.nodes.live.guest) (next w.nodes.live.guest).steps w.protocol.state ≡ step_outcome w.start w.protocol.state
-step_goes w h runs few room numbers =
+step_is_done w h runs few room numbers =
     let g = w.nodes.live.guest in
-    goes w.protocol.state (step_refusals w.nodes.live.outbox w.protocol.state) (step_done w.ports.boxes (sent g) (next g).steps w.protocol.state) None
-    (sym (none_applies w.protocol.state w.nodes.live.outbox runs few room numbers)) refl
-    ∙ step_sight w h
+    done_if_none_refuses w.protocol.state (step_refusals w.nodes.live.outbox w.protocol.state)
+    (step_done w.ports.boxes (sent g) (next g).steps w.protocol.state) (none_applies w.protocol.state w.nodes.live.outbox runs few room numbers)
+    ∙ step_sees_the_pair w h
 
 -- in a pair a step is kept
 step_kept : (boxes : List (List Frame)) (fs : List Frame) (steps : ℕ) (r : Record) → is_alone r.mode ≡ false
@@ -137,7 +151,7 @@ pub steps_answered :
     → HaveRoom n w.nodes.live.guest w.nodes.live.outbox
     → (replies.Steps (after_steps n w.nodes.live.guest).steps, (with_steps n w).protocol.state) ≡ steps_outcome w.start w.protocol.state n
 steps_answered zero w h two runs fits room =
-    ap (λ (g : Guest). (replies.Steps g.steps, (with_steps 0 w).protocol.state)) (no_steps w.nodes.live.guest ∙ sym (live_is w h))
+    ap (λ (g : Guest). (replies.Steps g.steps, (with_steps 0 w).protocol.state)) (guest-steps 0 w.nodes.live.guest ∙ sym (live_is w h))
     ∙ ap (λ (v : Pair). (replies.Steps (live_at w.start w.protocol.state).guest.steps, v.protocol.state)) (with_no_steps w)
     ∙ sym (no-steps-answered w.start w.protocol.state)
 steps_answered (suc n) w h two runs fits room =
@@ -147,15 +161,15 @@ steps_answered (suc n) w h two runs fits room =
     let e = steps-counted n w in
     let before = steps_answered n w h two (λ l. runs (omega arith)) (omega arith) (room-before n g w.nodes.live.outbox room) in
     (λ i. (
-      replies.Steps (after_steps-last n g i).steps,
+      replies.Steps (last-step n g i).steps,
       record w.protocol.state {
         journal = record w.protocol.state.journal {
-          running = (ap (λ t. ran ++ t) (replicate-last n) ∙ sym (append_assoc ran (replicate n Ran) (Ran ∷ []))) i;
+          running = (ap (λ t. ran ++ t) (replicate-last Ran n) ∙ sym (append_assoc ran (replicate n Ran) (Ran ∷ []))) i;
         };
       },
     ))
     ∙ step_kept w.ports.boxes (sent (after_steps n g)) (next (after_steps n g)).steps v.protocol.state two
-    ∙ step_goes v (steps_hold n w two h) (runs (omega arith)) (room-last n g w.nodes.live.outbox room)
+    ∙ step_is_done v (steps_hold n w two h) (runs (omega arith)) (room-last n g w.nodes.live.outbox room)
     (let one : step_room w.protocol.state.mode ≡ 1 = ap (λ (b : Bool). cond b lone_step_entries 1) two in omega arith)
     (ap (λ (b : Bool). b && frames_run_out v.protocol.state) two)
     ∙ ap (λ (o : Outcome). goes_on w.start o.0 o.1) before
