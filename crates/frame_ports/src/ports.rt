@@ -20,7 +20,7 @@ ghost use Rattle.std.specs.Prelude.{
   slice_get,
   nat_lt,
 };
-ghost use Rattle.frame_ports.specs.Limits.{max_clients, inbox_frames, box_frames};
+ghost use Rattle.frame_ports.specs.Limits.{max_clients, inbox_frames, box_frames, number_limit};
 ghost use Rattle.frame_ports.specs.Addresses.{IsFrame};
 ghost use Rattle.frame_ports.specs.Numbers.{is_new, landing, after_landing, renumbered};
 ghost use Rattle.frame_ports.specs.Ports.{
@@ -55,7 +55,7 @@ use std::marker::Model;
 /// For each client, numbered from 1, an inbox of numbered frames for the guest, a box of frames that landed, and
 /// the number of the last frame of the guest that came for it.
 ///
-/// A call changes only the list that it names and, in [`Ports::deliver`], the next frame number. Only
+/// A call changes only the list that it names and, in [`Ports::deliver`] and [`Ports::put`], the next frame number. Only
 /// [`Ports::land`] and [`Ports::renumber`] change the number of a client. After a refusal nothing has changed. Only
 /// [`Ports::new`] takes memory.
 #[derive(Drop)]
@@ -148,14 +148,26 @@ impl Ports {
         if self.inbox_len(client) >= INBOX_FRAMES {
             return Err(PortError::Full);
         }
-        let number = self.next;
-        if number >= NUMBER_LIMIT {
+        if self.next >= NUMBER_LIMIT {
             return Err(PortError::Exhausted);
         }
+        Ok(self.put(client, bytes))
+    }
+
+    /// As [`Ports::deliver`], for a caller that has made its tests.
+    pub fn put(&mut self, client: u64, bytes: &[u8]) -> u64
+        requires client { IsClient self.old client }
+        requires frame { IsFrame (record { items = bytes.now }) }
+        requires room { length (inbox_of self.old client) < inbox_frames }
+        requires numbers { self.old.next < number_limit }
+        ensures number { result ≡ self.old.next }
+        ensures ports { self.new ≡ after_delivery self.old client bytes.now }
+    {
+        let number = self.next;
         let inbox = &mut self.inboxes[(client - 1) as usize];
         put_last(inbox, (number, frame_of(bytes)));
         self.next = number + 1;
-        Ok(number)
+        number
     }
 
     /// Takes the first frame out of the client's inbox, with its number; `None` where the inbox is empty.

@@ -1,16 +1,16 @@
 -- Laws of why a frame for a client is dropped: by a loss that was asked for, or at a full box. No failure drops one for another reason.
-use Rattle.std.proofs.Common.{◌≡◌, ℕ, ◌-◌, ◌⊎◌, inl, inr, List, [], ◌∷◌, ◌++◌, length, map, take, drop, refl, sym, ap, ◌∙◌, Bool, true}
-use Rattle.std.proofs.{Common.{false, cond, subst}, lemmas.Bool.{lt-ltb, eqb-true}, lemmas.List.append-nil, lemmas.List.Elements.All-nil}
+use Rattle.std.proofs.Common.{◌≡◌, ℕ, ◌-◌, ◌⊎◌, inl, inr, List, [], ◌∷◌, ◌++◌, length, take, drop, refl, sym, ap, ◌∙◌, Bool, true}
+use Rattle.std.proofs.{Common.{false, cond}, lemmas.Bool.{lt-ltb, eqb-true}, lemmas.List.Elements.All-nil}
 use Rattle.std.proofs.lemmas.List.Elements.{All-cons, All-append, filter-append}
 use Rattle.std.specs.{Prelude.{◌==◌, nat_lt, All}, List.filter}
 use Rattle.frame_ports.specs.{Lands.list_of, Limits.box_frames}
-use Rattle.pair_history.specs.{Entries.{Frame, Entry, Ran, DropIn, Land, DropOut}, HistoryState.{HistoryState, at, after, Legal, out_of}}
-use Rattle.pair_history.specs.{Landings.{IsAtFull, IsInBox, DropsAreAskedOrFull, BoxesFit}, Order.AreGuests, Reached.AllClients}
-use Rattle.pair_history.specs.{Reached.IsReached, Failures.{arrived_numbers, rising, drops_of_taken_in, all_land, go_live_entries}}
+use Rattle.pair_history.specs.{Entries.{Frame, Entry, Ran, Land, DropOut}, HistoryState.{HistoryState, at, after, Legal, out_of}}
+use Rattle.pair_history.specs.{Landings.{IsAtFull, IsInBox, DropsAreAskedOrFull}, Order.AreGuests}
+use Rattle.pair_history.specs.{Reached.IsReached, Failures.{all_land}}
 use Rattle.pair_history.specs.{Failures.{fail_backup_entries, alone_step_entries}, Leaving.{Way, Landed, AtFull, GivenUp, drop_way}}
 use Rattle.pair_history.specs.Leaving.{in_way, is_given_up, NotGivenUp, leaves_by, leaving, frames_left, has_landed, frames_landed}
-use Rattle.pair_history.specs.{Released.{sent_to, landed_by, released, IsFresh}, Waits.without_numbers}
-use Rattle.pair_history.specs.laws.{Landings.landings-land, Leaving.{all_leave_in_order, frames_left-append}, TakenIn.at-drops_in}
+use Rattle.pair_history.specs.{Released.{sent_to, landed_by, released, IsFresh}}
+use Rattle.pair_history.specs.laws.{Leaving.{all_leave_in_order, frames_left-append}}
 use Rattle.pair_history.specs.laws.Drops.{DropsAreAskedOrFull-append, at_full-asked, asked-known, DropsAreAskedOrFull-guests}
 use Rattle.pair_history.specs.laws.GoingLive.{lands-asked}
 use Rattle.pair_history.proofs.ReachedLaws.{reached}

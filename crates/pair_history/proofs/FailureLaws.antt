@@ -1,5 +1,5 @@
 -- What failures add to a history is legal; the state that it leads to, and what leaves for each client.
-use Rattle.std.proofs.Common.{◌≡◌, ℕ, ◌+◌, ◌-◌, ◌*◌, ◌≤◌, List, [], ◌∷◌, ◌++◌, length, map, refl, sym, ap, ◌∙◌, arith, mul-le-mul_right}
+use Rattle.std.proofs.Common.{◌≡◌, ℕ, ◌+◌, ◌-◌, ◌*◌, ◌≤◌, List, [], ◌∷◌, ◌++◌, length, map, refl, sym, ◌∙◌, arith, mul-le-mul_right}
 use Rattle.std.proofs.{Common.{Bool, true, false, cond}, lemmas.List.{append-nil, length-append, length-map}}
 use Rattle.std.proofs.lemmas.List.Sorted.{length_permutation}
 use Rattle.std.specs.Prelude.{◌==◌, nat_lt}
@@ -7,13 +7,12 @@ use Rattle.guest_machine.specs.Step.{next, sent}
 use Rattle.frame_ports.specs.{Addresses.targets_of, Lands.{list_of, has_room, landed_at, lands}, Limits.box_frames}
 use Rattle.frame_ports.specs.laws.Addresses.{length-targets_of}
 use Rattle.pair_history.specs.{Entries.{Frame, Entry, Ran, Arrive, DropIn, Land, DropOut}, HistoryState.{HistoryState, at, after, Legal}}
-use Rattle.pair_history.specs.{Landings.{landings, BoxesFit}, Leaving.{leaving, LeaveInOrder}, Order.AreGuests, Reached.AllClients}
+use Rattle.pair_history.specs.{Landings.{landings}}
 use Rattle.pair_history.specs.{Reached.IsReached, Released.{Lands, DropsBoxed, DropsOnWay, Nothing, effect_on, Account, empty_account}}
 use Rattle.pair_history.specs.{Released.{booked, goes_on, account}, Failures.{arrived_numbers, rising, drops_of_taken_in}}
-use Rattle.pair_history.specs.Failures.{go_live_entries, all_land, fail_backup_entries, alone_step_entries, dropped_numbers}
-use Rattle.pair_history.specs.Waits.{without_numbers}
+use Rattle.pair_history.specs.Failures.{go_live_entries, all_land, fail_backup_entries, alone_step_entries}
 use Rattle.pair_history.specs.laws.{Histories.{at-append, Legal-append}, Landings.{landings-land, length-landings}}
-use Rattle.pair_history.specs.laws.{Leaving.landings-leave, TakenIn.{taken_in_dropped, at-drops_in, kept_boxes, taken_in_rises}}
+use Rattle.pair_history.specs.laws.{TakenIn.{taken_in_dropped, at-drops_in, kept_boxes, taken_in_rises}}
 use Rattle.pair_history.specs.laws.{Sorted.IsPermutation-rising, GoingLive.{goes_live, go_live_leaves, go_live_numbers}}
 use Rattle.pair_history.proofs.{AccountLaws.account-append, ReachedLaws.reached}
 

@@ -7,3 +7,9 @@ pub mod AccountLaws
 pub mod OrderLaws
 pub mod LogLaws
 pub mod DropLaws
+pub mod JournalLaws
+pub mod EpochLaws
+pub mod ArrivedLaws
+pub mod LengthLaws
+pub mod LandedEntryLaws
+pub mod NewFrameLaws

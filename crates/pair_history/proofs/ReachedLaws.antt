@@ -10,7 +10,6 @@ use Rattle.frame_ports.specs.Lands.{list_of, with_list}
 use Rattle.frame_ports.specs.Limits.{box_frames}
 use Rattle.pair_history.specs.Entries.{Frame, Entry, Ran, Arrive, Delivered, Refused, DropIn, Land, DropOut, Took}
 use Rattle.pair_history.specs.HistoryState.{HistoryState, out_of, out_without, at, after, Allows, Legal}
-use Rattle.pair_history.specs.Landings.{BoxesFit}
 use Rattle.pair_history.specs.Reached.{AllClients, IsReached}
 use Rattle.pair_history.specs.laws.Landings.{BoxesFit-set, BoxesFit-at, AllClients-targets}
 use Rattle.pair_history.specs.laws.Waiting.{AreRising-push, AreRising-without}

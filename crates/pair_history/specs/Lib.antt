@@ -13,3 +13,6 @@ pub mod Log
 pub mod Unread
 pub mod Released
 pub mod Leaving
+pub mod Journal
+pub mod Epochs
+pub mod LandedEntries

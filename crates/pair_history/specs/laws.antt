@@ -11,3 +11,6 @@ pub mod Sorted
 pub mod ClientLists
 pub mod TakenIn
 pub mod GoingLive
+pub mod Joined
+pub mod Epochs
+pub mod Landed

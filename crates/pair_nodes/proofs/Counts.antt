@@ -8,7 +8,7 @@ use Rattle.pair_history.specs.Entries.{Entry}
 use Rattle.frame_ports.specs.laws.Addresses.{targets_of-append}
 use Rattle.pair_record.specs.Journal.{Journal, all_entries, joined, committed, entered, first_of, rest_of, sealed_as, with_history, with_moves, with_running}
 use Rattle.pair_record.specs.declared.event.{Event.TheVariants.Step, Reply.Reply}
-use Rattle.pair_journal.specs.laws.Joined.{joined-push, length-all}
+use Rattle.pair_history.specs.laws.Joined.{joined-push, length-all}
 use Rattle.pair_nodes.specs.Runs.{calls_in}
 
 abbrev pub count : Journal → ℕ

@@ -31,7 +31,7 @@ use Rattle.std.proofs.lemmas.List.{length-append}
 use Rattle.frame_ports.specs.Addresses.{targets_of}
 use Rattle.frame_ports.specs.laws.Addresses.{targets_of-append}
 use Rattle.pair_history.specs.laws.Waits.{arrived-few}
-use Rattle.pair_journal.specs.laws.Landed.{all_frames-append}
+use Rattle.pair_history.specs.laws.Landed.{all_frames-append}
 use Rattle.pair_record.specs.laws.Owed.{all_frames-epochs}
 use Rattle.pair_history.specs.laws.Landings.{length-landings}
 use Rattle.pair_record.specs.{Journal.kept_entries, Kept.frames_by_epoch}

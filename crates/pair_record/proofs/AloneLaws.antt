@@ -8,7 +8,7 @@ use Rattle.output_gate.specs.Epochs.{epoch, frames_of, frames_to}
 use Rattle.pair_history.specs.Entries.{Frame}
 use Rattle.pair_record.specs.{Protocol.{Record, all_held, exhausts, frames_run_out, first_refusal}, Record.IsRecord}
 use Rattle.pair_record.specs.{EpochActs.enter_epoch_refusals, declared.event.Refusal.TheVariants.Exhausted}
-use Rattle.pair_journal.specs.Journal.{all_entries}
+use Rattle.pair_history.specs.Journal.{all_entries}
 use Rattle.pair_record.specs.laws.Windows.{NumberedFrom-push, frames_to-all, frames_of-push}
 
 -- to how many clients all that is held goes, and then the outbox

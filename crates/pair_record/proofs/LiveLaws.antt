@@ -6,7 +6,7 @@ use Rattle.std.specs.Prelude.{nat_le}
 use Rattle.frame_ports.specs.Limits.{number_limit}
 use Rattle.output_gate.specs.Epochs.{Epoch, frames_of, frames_to}
 use Rattle.pair_history.specs.{Entries.Entry, Failures.{arrived_numbers}}
-use Rattle.pair_journal.specs.Journal.{Journal, kept_entries, with_history}
+use Rattle.pair_history.specs.Journal.{Journal, kept_entries, with_history}
 use Rattle.pair_record.specs.{declared.event.Refusal.TheVariants.Exhausted, declared.window.Window.Window, FailureActs.entries_with}
 use Rattle.pair_record.specs.{FailureActs.{live_refusals}, Protocol.{Record, first_refusal}, Window.IsWindow}
 use Rattle.pair_record.specs.Window.{first_after, committed_count, committed_of}

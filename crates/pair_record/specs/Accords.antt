@@ -11,7 +11,7 @@ use Rattle.pair_history.specs.HistoryState.{HistoryState, Waiting, inbox_of, at,
 use Rattle.pair_history.specs.Landings.{DropsAreAskedOrFull, BoxesFit}
 use Rattle.pair_history.specs.Moves.{Move, entries_of, guest_along, frames_along, left, AllCan}
 use Rattle.pair_history.specs.Reached.{AreRising}
-use Rattle.pair_journal.specs.Journal.{Journal}
+use Rattle.pair_history.specs.Journal.{Journal}
 pub use Rattle.pair_record.specs.Kept.{frames_by_epoch}
 use Rattle.pair_record.specs.Protocol.{Record, shown_at}
 use Rattle.pair_record.specs.Window.{committed_of, uncommitted_of}

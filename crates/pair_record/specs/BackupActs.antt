@@ -9,7 +9,7 @@ use Rattle.pair_history.specs.Landings.{landings}
 use Rattle.pair_record.specs.declared.event.Packet.{Packet}
 use Rattle.pair_record.specs.declared.event.Refusal.TheVariants.{Stale, Gap, Exhausted}
 use Rattle.pair_record.specs.declared.event.Reply.TheVariants as replies
-use Rattle.pair_journal.specs.Journal.{with_history, committed}
+use Rattle.pair_history.specs.Journal.{with_history, committed}
 use Rattle.pair_record.specs.Window.{with_commit, with_acknowledged}
 use Rattle.pair_record.specs.Tables.{Record, Sight, Outcome, Row, unless, exhausts}
 use Rattle.failover.specs.Modes.{mode_filled}

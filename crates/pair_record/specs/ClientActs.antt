@@ -9,7 +9,7 @@ use Rattle.pair_record.specs.declared.event.Refusal.{Refusal}
 use Rattle.pair_record.specs.declared.event.Refusal.TheVariants.{Full, BadFrame, NoClient, Stopped, Exhausted, NoMemory}
 use Rattle.pair_record.specs.declared.event.Reply.{Reply}
 use Rattle.pair_record.specs.declared.event.Reply.TheVariants as replies
-use Rattle.pair_journal.specs.Journal.{with_history, with_moves}
+use Rattle.pair_history.specs.Journal.{with_history, with_moves}
 use Rattle.pair_record.specs.Modes.{is_stopped, is_alone}
 use Rattle.pair_record.specs.Tables.{Record, Sight, Outcome, Row, first_refusal, refused, or_else, unless, exhausts}
 use Rattle.pair_record.specs.Tables.{entry_refusals, is_among}

@@ -8,8 +8,8 @@ use Rattle.pair_history.specs.HistoryState.{HistoryState, at, sent_along}
 use Rattle.pair_record.specs.declared.event.Refusal.TheVariants.{Exhausted}
 use Rattle.pair_record.specs.ClientActs.{arrival_done}
 use Rattle.pair_record.specs.FailureActs.{landed_after, failure_done}
-pub use Rattle.pair_journal.specs.Epochs.{is_arrival, to_come, up_to, behind, guest_epoch}
-use Rattle.pair_journal.specs.Journal.{joined}
+pub use Rattle.pair_history.specs.Epochs.{is_arrival, to_come, up_to, behind, guest_epoch}
+use Rattle.pair_history.specs.Journal.{joined}
 use Rattle.pair_record.specs.GuestActs.{seal_done}
 use Rattle.pair_record.specs.Tables.{Record, Outcome, Row, exhausts, frames_run_out}
 

@@ -12,7 +12,7 @@ use Rattle.pair_history.specs.Failures.{drops_of_taken_in}
 use Rattle.pair_record.specs.declared.event.Refusal.TheVariants.{Exhausted}
 use Rattle.pair_record.specs.declared.event.Reply.TheVariants as replies
 use Rattle.pair_record.specs.GuestActs.{seal_done}
-use Rattle.pair_journal.specs.Journal.{Journal, kept_entries, with_history, entered, discarded}
+use Rattle.pair_history.specs.Journal.{Journal, kept_entries, with_history, entered, discarded}
 use Rattle.pair_record.specs.Limits.{full_checkpoint, first_frame}
 use Rattle.pair_record.specs.Window.{none_pending, uncommitted_of}
 use Rattle.pair_record.specs.Tables.{Record, Sight, Outcome, Row, unless, exhausts}

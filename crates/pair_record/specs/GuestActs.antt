@@ -9,7 +9,7 @@ use Rattle.pair_history.specs.Landings.{landings}
 use Rattle.pair_record.specs.declared.event.Refusal.TheVariants.{Stopped, Behind, CutNeeded, Exhausted}
 use Rattle.pair_record.specs.declared.event.Reply.TheVariants as replies
 use Rattle.pair_record.specs.Limits.{most_pending, stepping_frames, lone_step_entries}
-use Rattle.pair_journal.specs.Journal.{with_moves, sealed_as}
+use Rattle.pair_history.specs.Journal.{with_moves, sealed_as}
 use Rattle.pair_record.specs.Modes.{is_stopped, is_alone}
 use Rattle.pair_record.specs.Window.{with_cut}
 use Rattle.pair_record.specs.Tables.{Record, Sight, Outcome, Row, unless, exhausts, frames_run_out}

@@ -4,7 +4,7 @@ use Rattle.frame_ports.specs.Ports.{PortsState}
 use Rattle.output_gate.specs.Epochs.{Epoch, frames_of}
 use Rattle.output_gate.specs.Landings.{AreOld, ports_after}
 use Rattle.pair_history.specs.Entries.{Frame, Entry}
-pub use Rattle.pair_journal.specs.LandedEntries.{all_frames, entries_of_landing, entries_for, entries_after}
+pub use Rattle.pair_history.specs.LandedEntries.{all_frames, entries_of_landing, entries_for, entries_after}
 use Rattle.pair_record.specs.FailureActs.{first_uncommitted, live_refusals, live_done}
 use Rattle.pair_record.specs.Record.{first_held}
 use Rattle.pair_record.specs.Tables.{Record, Outcome, Row}

@@ -15,10 +15,10 @@ pub mod Accords
 pub mod Limits
 pub mod Refusals
 -- what public clauses cite of lower crates
-pub use Rattle.pair_journal.specs.Journal
-pub use Rattle.pair_journal.specs.laws.Joined
-pub use Rattle.pair_journal.specs.laws.Epochs
-pub use Rattle.pair_journal.specs.laws.Landed
+pub use Rattle.pair_history.specs.Journal
+pub use Rattle.pair_history.specs.laws.Joined
+pub use Rattle.pair_history.specs.laws.Epochs
+pub use Rattle.pair_history.specs.laws.Landed
 pub use Rattle.pair_history.specs.Entries
 pub use Rattle.pair_history.specs.HistoryState
 pub use Rattle.failover.specs.Changes

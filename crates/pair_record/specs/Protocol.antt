@@ -10,7 +10,7 @@ use Rattle.pair_record.specs.declared.event.Event.{Event}
 use Rattle.pair_record.specs.declared.event.Event.TheVariants.{Step, Cut, Send, BackupGet, AckGet, Admit, Deliver, Take, LoseIn, LoseOut}
 use Rattle.pair_record.specs.declared.event.Event.TheVariants.{FailPrimary, FailBackup, GoLive, Protect}
 use Rattle.pair_record.specs.declared.event.Packet.{Packet}
-use Rattle.pair_journal.specs.Journal.{joined, all_entries}
+use Rattle.pair_history.specs.Journal.{joined, all_entries}
 use Rattle.pair_record.specs.Modes.{mode_refusal}
 pub use Rattle.pair_record.specs.Tables.{Record, Sight, Outcome, Row, first_refusal, refused, or_else, unless, Refuses, exhausts}
 pub use Rattle.pair_record.specs.Tables.{entry_refusals, frames_run_out, is_among}

@@ -6,7 +6,7 @@ use Rattle.output_gate.specs.Landings.{ports_after}
 use Rattle.frame_ports.specs.Lands.{list_of, with_list, lands}
 use Rattle.frame_ports.specs.Ports.{PortsState}
 use Rattle.pair_history.specs.Entries.{Frame}
-use Rattle.pair_journal.specs.Journal.{empty_journal}
+use Rattle.pair_history.specs.Journal.{empty_journal}
 use Rattle.pair_record.specs.Modes.{is_alone}
 use Rattle.pair_record.specs.Limits.{first_frame, last_frame}
 use Rattle.pair_record.specs.Protocol.{Record}

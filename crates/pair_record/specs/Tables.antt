@@ -10,7 +10,7 @@ use Rattle.pair_record.specs.declared.event.Refusal.TheVariants.{Exhausted, NoMe
 use Rattle.pair_record.specs.declared.event.Reply.{Reply}
 use Rattle.pair_record.specs.declared.event.Reply.TheVariants as replies
 use Rattle.pair_record.specs.declared.window.Window.{Window}
-use Rattle.pair_journal.specs.Journal.{Journal, all_entries}
+use Rattle.pair_history.specs.Journal.{Journal, all_entries}
 use Rattle.pair_record.specs.Limits.{last_frame}
 
 pub record Record : Type 0 where

@@ -5,7 +5,7 @@ ghost use Rattle.frame_ports.specs.Addresses.{IsFrame};
 ghost use Rattle.frame_ports.specs.Ports.{empty_ports};
 ghost use Rattle.frame_ports.specs.Limits.{max_clients, number_limit};
 ghost use Rattle.pair_history.specs.Entries.{Ran};
-ghost use Rattle.pair_journal.specs.Journal.{all_entries, with_running};
+ghost use Rattle.pair_history.specs.Journal.{all_entries, with_running};
 ghost use Rattle.pair_record.specs.Modes.{is_stopped as stopped, is_alone as alone, change_refusal};
 ghost use Rattle.failover.specs.declared.change.Change.TheVariants as changes;
 ghost use Rattle.pair_record.specs.Protocol.{exhausts, frames_run_out as runs_out, is_among, first_refusal};
@@ -30,8 +30,7 @@ use failover::Mode;
 use frame_ports::{NUMBER_LIMIT, PortError, Ports};
 use memory_wanted::MemoryWanted;
 use output_gate::{Gate, GateError};
-use pair_history::{Frame, History};
-use pair_journal::{Journal, count_landings};
+use pair_history::{Frame, History, Journal, count_landings};
 use std::alloc::Global;
 use std::marker::Model;
 

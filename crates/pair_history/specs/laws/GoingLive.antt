@@ -1,25 +1,19 @@
 -- Where a backup goes live: what was taken in is dropped, and what is owed lands. That is legal, drops no frame but at a full box, and lets
 -- what is owed leave in order.
-use Rattle.std.proofs.Common.{◌≡◌, ℕ, ◌+◌, ◌-◌, ◌*◌, ◌≤◌, List, [], ◌∷◌, ◌++◌, length, map, refl, sym, ap, ◌∙◌, arith, mul-le-mul_right}
-use Rattle.std.proofs.{Common.{Bool, true, false, cond, ◌⊎◌, inl, inr, take, drop, subst}, lemmas.List.{append-nil, length-append}}
-use Rattle.std.proofs.{lemmas.List.length-map, lemmas.List.Sorted.length_permutation, lemmas.Bool.{lt-ltb, eqb-true}}
-use Rattle.std.proofs.lemmas.List.Elements.{All-nil, All-cons, All-append, filter-append}
-use Rattle.std.specs.{Prelude.{◌==◌, nat_lt, All}, List.filter}
-use Rattle.guest_machine.specs.Step.{next, sent}
-use Rattle.frame_ports.specs.{Addresses.targets_of, Lands.{list_of, has_room, landed_at, lands}, Limits.box_frames}
-use Rattle.frame_ports.specs.laws.Addresses.{length-targets_of}
-use Rattle.pair_history.specs.{Entries.{Frame, Entry, Ran, Arrive, DropIn, Land, DropOut}, HistoryState.{HistoryState, at, after, Legal}}
-use Rattle.pair_history.specs.{HistoryState.out_of, Landings.{landings, BoxesFit, IsAtFull, IsInBox, DropsAreAskedOrFull}}
-use Rattle.pair_history.specs.Leaving.{leaving, LeaveInOrder, Way, Landed, AtFull, GivenUp, drop_way, in_way, is_given_up, NotGivenUp}
-use Rattle.pair_history.specs.{Leaving.{leaves_by, frames_left, has_landed, frames_landed}, Order.AreGuests, Reached.AllClients}
-use Rattle.pair_history.specs.{Reached.IsReached, Released.{Lands, DropsBoxed, DropsOnWay, Nothing, effect_on, Account, empty_account}}
-use Rattle.pair_history.specs.{Released.{booked, goes_on, account, sent_to, landed_by, released, IsFresh}, Failures.arrived_numbers}
-use Rattle.pair_history.specs.Failures.{rising, drops_of_taken_in, go_live_entries, all_land, fail_backup_entries, alone_step_entries}
+use Rattle.std.proofs.Common.{◌≡◌, ℕ, List, [], ◌∷◌, ◌++◌, length, map, refl, sym, ap, ◌∙◌}
+use Rattle.std.proofs.{Common.{Bool, true, false, cond, subst}, lemmas.List.{append-nil}}
+use Rattle.frame_ports.specs.{Lands.{has_room, landed_at, lands}, Limits.box_frames}
+use Rattle.pair_history.specs.{Entries.{Frame, Entry, DropIn, Land, DropOut}, HistoryState.{HistoryState, at, after, Legal}}
+use Rattle.pair_history.specs.{Landings.{landings, BoxesFit, DropsAreAskedOrFull}}
+use Rattle.pair_history.specs.Leaving.{leaving, LeaveInOrder}
+use Rattle.pair_history.specs.{Order.AreGuests, Reached.AllClients}
+use Rattle.pair_history.specs.{Failures.arrived_numbers}
+use Rattle.pair_history.specs.Failures.{rising, drops_of_taken_in, go_live_entries, all_land}
 use Rattle.pair_history.specs.{Failures.dropped_numbers, Waits.without_numbers}
-use Rattle.pair_history.specs.laws.{Histories.{at-append, Legal-append}, Landings.{landings-land, length-landings}}
-use Rattle.pair_history.specs.laws.{Leaving.{landings-leave, all_leave_in_order, frames_left-append}, TakenIn.taken_in_dropped}
-use Rattle.pair_history.specs.laws.{TakenIn.{at-drops_in, kept_boxes, taken_in_rises}, Sorted.IsPermutation-rising}
-use Rattle.pair_history.specs.laws.Drops.{DropsAreAskedOrFull-append, at_full-asked, asked-known, DropsAreAskedOrFull-guests}
+use Rattle.pair_history.specs.laws.{Histories.{at-append, Legal-append}, Landings.{landings-land}}
+use Rattle.pair_history.specs.laws.{Leaving.{landings-leave}, TakenIn.taken_in_dropped}
+use Rattle.pair_history.specs.laws.{TakenIn.{at-drops_in}}
+use Rattle.pair_history.specs.laws.Drops.{DropsAreAskedOrFull-append, at_full-asked}
 
 abbrev pub live_state : HistoryState → List Entry → HistoryState
 live_state s kept = record s { waiting = (at s kept).waiting; out = []; boxes = lands s.boxes s.out }

@@ -22,7 +22,7 @@ use Rattle.pair_record.specs.{Protocol.{Record, shown_at, live_at, outbox_of, co
 use Rattle.pair_record.specs.Window.{committed_count}
 use Rattle.pair_history.specs.Reached.{AreRising}
 use Rattle.pair_record.specs.laws.Windows.{next_committed}
-use Rattle.pair_journal.specs.Journal.{joined, first_of, rest_of, kept_entries, with_running}
+use Rattle.pair_history.specs.Journal.{joined, first_of, rest_of, kept_entries, with_running}
 
 -- Lists of epochs
 

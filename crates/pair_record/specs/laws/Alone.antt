@@ -11,7 +11,7 @@ use Rattle.pair_history.specs.Moves.{Move, Steps, Arrives, entries_of, guest_alo
 use Rattle.pair_history.specs.laws.Histories.{at-append}
 use Rattle.pair_history.specs.laws.Landings.{AllClients-targets, landings-land, AllLand}
 use Rattle.pair_record.specs.{declared.window.Window.Window, Accords.Accords}
-use Rattle.pair_journal.specs.Journal.{joined, kept_entries, all_entries}
+use Rattle.pair_history.specs.Journal.{joined, kept_entries, all_entries}
 use Rattle.pair_record.specs.Protocol.{Record, shown_at, live_at, all_held, outbox_of, step_entries, cut_done, landed_after}
 use Rattle.pair_record.specs.Record.{IsRecord, IsLone, ports_after_all}
 use Rattle.pair_record.specs.Window.{committed_of, committed_count}

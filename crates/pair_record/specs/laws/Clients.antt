@@ -24,7 +24,7 @@ use Rattle.pair_history.specs.laws.Landings.{AllLand}
 use Rattle.pair_history.specs.Reached.{AllClients}
 use Rattle.pair_history.specs.laws.Leaving.{landings-leave}
 use Rattle.pair_record.specs.declared.window.Window.{Window}
-use Rattle.pair_journal.specs.Journal.{with_history}
+use Rattle.pair_history.specs.Journal.{with_history}
 use Rattle.pair_record.specs.Accords.{epoch_frames, frames_by_epoch, AreClients, Accords}
 use Rattle.pair_record.specs.Protocol.{Record, shown_at, ack_done, deliver_done, take_done, loss_done, let_go}
 use Rattle.pair_record.specs.Record.{IsRecord, ports_after_ack, ports_after_take, ports_after_lose_in, ports_after_lose_out}

@@ -18,7 +18,7 @@ use Rattle.frame_ports.specs.laws.Lands.{length-lands}
 use Rattle.pair_record.specs.{declared.window.Window.Window, Record.ports_after_all, Accords.{all_moves, epoch_frames, frames_by_epoch}}
 use Rattle.pair_record.specs.{Accords.{AreInboxes, AreClients, Accords, sealed_now, left_now}, Protocol.{Record, shown_at, all_held}}
 use Rattle.pair_record.specs.{Protocol.{seal_done, landed_after}, Window.committed_count}
-use Rattle.pair_journal.specs.Journal.{joined}
+use Rattle.pair_history.specs.Journal.{joined}
 use Rattle.pair_record.specs.laws.Accords.{sealed_entries, owed_with, all_moves-push, epoch_frames-push}
 
 module _ (start : HistoryState) (r : Record) (p : PortsState) (h : Accords start r p) (epoch held : List Move) (es rest : List Entry)

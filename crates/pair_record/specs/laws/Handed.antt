@@ -10,7 +10,7 @@ use Rattle.pair_history.specs.laws.Moves.{can-steps, left-steps}
 use Rattle.pair_record.specs.{Accords.{Accords, sealed_now, left_now}, EpochActs.{epoch_sent, seal_epoch_done, enter_epoch_done}}
 use Rattle.pair_record.specs.{EpochActs.{fail_within_done, up_to, behind}, Protocol.{Record, shown_at, landed_after}, Record.IsRecord}
 use Rattle.pair_record.specs.{Record.{IsLone, first_held, ports_landed, ports_after_all}, Window.none_pending}
-use Rattle.pair_journal.specs.Epochs.{behind, guest_epoch}
+use Rattle.pair_history.specs.Epochs.{behind, guest_epoch}
 use Rattle.pair_record.specs.laws.{Accords.sealed_state, Numbers.first_lone, Epochs.{seal_accords, landed_accords}, Windows.within}
 use Rattle.failover.specs.declared.mode.Mode.TheVariants as modes
 

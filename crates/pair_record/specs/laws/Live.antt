@@ -14,9 +14,9 @@ use Rattle.pair_record.specs.{Accords.{AreClients, AreInboxes, Accords, kept_now
 use Rattle.pair_record.specs.{Protocol.{shown_at, live_entries, go_live_done}, Record.{ports_after_live}}
 use Rattle.pair_record.specs.Window.{committed_of, committed_count, none_pending}
 use Rattle.pair_record.specs.{FailureActs.entries_with}
-use Rattle.pair_journal.specs.Journal.{kept_entries, Journal}
+use Rattle.pair_history.specs.Journal.{kept_entries, Journal}
 use Rattle.pair_record.specs.laws.{Accords.{kept_is, live_waiting}}
-use Rattle.pair_journal.specs.laws.Joined.{length-drops}
+use Rattle.pair_history.specs.laws.Joined.{length-drops}
 
 pub length-live : (landed : List Entry) (j : Journal)
     → length (entries_with landed j) ≡ length (arrived_numbers (kept_entries j)) + length landed

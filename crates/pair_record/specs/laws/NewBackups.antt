@@ -5,7 +5,7 @@ use Rattle.output_gate.specs.Epochs.{Epoch, frames_of}
 use Rattle.pair_history.specs.HistoryState.{HistoryState, at}
 use Rattle.std.proofs.lemmas.List.{append-nil}
 use Rattle.pair_record.specs.Accords.{frames_by_epoch, Accords}
-use Rattle.pair_journal.specs.Journal.{joined}
+use Rattle.pair_history.specs.Journal.{joined}
 use Rattle.pair_record.specs.Limits.{first_frame, full_checkpoint}
 use Rattle.pair_record.specs.Record.{IsLone}
 use Rattle.pair_record.specs.Protocol.{Record, shown_at, live_at, begin_done, full_done, protect_done}

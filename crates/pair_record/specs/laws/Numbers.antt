@@ -15,7 +15,7 @@ use Rattle.pair_record.specs.{Limits.most_pending, Window.{committed_of, uncommi
 use Rattle.pair_record.specs.{FailureActs.live_done, Protocol.{Record, first_refusal, cut_refusals, frames_run_out, seal_done}}
 use Rattle.pair_record.specs.{Protocol.{commit_done, ack_done, failure_done, begin_done, full_done, protect_done}, Record.AreNumbered}
 use Rattle.pair_record.specs.Record.{first_held, ports_landed, ports_after_ack, ports_after_all}
-use Rattle.pair_journal.specs.Journal.{Journal}
+use Rattle.pair_history.specs.Journal.{Journal}
 use Rattle.pair_record.specs.laws.{Windows.frames_of-push, Modes.filled_alone, Tables.passed}
 
 -- NUMBERS BELOW a limit

@@ -16,7 +16,7 @@ use Rattle.pair_record.specs.{Window.{committed_of, uncommitted_of, committed_co
 use Rattle.pair_record.specs.laws.Accords.{next_epoch}
 use Rattle.pair_record.specs.laws.Windows.{frames_of-push, next_committed, leaves, gone, committed_left, uncommitted_left, within}
 use Rattle.pair_record.specs.laws.Numbers.{in_two, landed_ports, each_below, first_positive}
-use Rattle.pair_journal.specs.laws.Landed.{all_frames-append, entries-append, entries-new, entries-old}
+use Rattle.pair_history.specs.laws.Landed.{all_frames-append, entries-append, entries-new, entries-old}
 
 pub all_frames-epochs : (es : List Epoch) → all_frames (frames_by_epoch es) ≡ frames_of es
 all_frames-epochs [] = refl

@@ -12,7 +12,7 @@ use Rattle.pair_record.specs.Protocol.{landed_after, commit_done, ack_done, Reco
 use Rattle.pair_record.specs.Protocol.{cut_done, seal_done, begin_done, full_done, protect_done, failure_done}
 use Rattle.pair_record.specs.{Record.{IsRecord, IsLone, SuitsMode}, Modes.is_alone, Limits.{most_pending, first_frame}}
 use Rattle.pair_record.specs.{Window.{with_commit, with_acknowledged}, FailureActs.live_done}
-use Rattle.pair_journal.specs.Journal.{rest_of, with_history}
+use Rattle.pair_history.specs.Journal.{rest_of, with_history}
 use Rattle.pair_record.specs.laws.{Modes.{clash, filled_alone}, Windows.{numbered_below, cut_window, commit_window, ack_window}}
 use Rattle.pair_record.specs.laws.Tables.{passed}
 

@@ -10,7 +10,7 @@ use Rattle.pair_record.specs.Protocol.{Record, Outcome, Row}
 use Rattle.pair_record.specs.Protocol.{first_refusal, exhausts, is_among, is_bad_length, deliver_refusals, take_refusals, loss_refusals}
 use Rattle.pair_record.specs.Protocol.{loss_of, loss_done, loss_reply, lost_in, lost_out}
 use Rattle.pair_record.specs.{Protocol.{ack_refusals, acknowledge_refusals, let_go}, declared.event.Packet.Packet}
-use Rattle.pair_journal.specs.Journal.{all_entries}
+use Rattle.pair_history.specs.Journal.{all_entries}
 
 -- no row applies: the first doesn't, nor do the others
 pub passed : {A : Type 0} (t : Bool) (x : A) (o : Option A) → cond t (Some x) o ≡ None → (t ≡ false) × (o ≡ None)

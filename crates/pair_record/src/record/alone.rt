@@ -6,7 +6,7 @@ ghost use Rattle.frame_ports.specs.Limits.{max_clients, number_limit};
 ghost use Rattle.pair_history.specs.Entries.{Ran};
 ghost use Rattle.pair_history.specs.Landings.{landings};
 ghost use Rattle.pair_record.specs.EpochActs.{fail_within_done};
-ghost use Rattle.pair_journal.specs.Journal.{all_entries, with_history};
+ghost use Rattle.pair_history.specs.Journal.{all_entries, with_history};
 ghost use Rattle.pair_record.specs.Modes.{is_alone};
 ghost use Rattle.pair_record.specs.Protocol.{frames_run_out, first_refusal, Refuses, fail_backup_refusals, fail_within_refusals};
 ghost use Rattle.pair_record.specs.Protocol.{fail_backup_done, all_held};
@@ -18,8 +18,7 @@ use crate::limits::{STEP_ENTRIES, STEP_FRAMES};
 use crate::window::Window;
 use failover::Mode;
 use memory_wanted::MemoryWanted;
-use pair_history::Frame;
-use pair_journal::count_landings;
+use pair_history::{Frame, count_landings};
 
 impl PairRecord {
     /// To how many clients all frames go that the gate holds, and then those of the outbox.

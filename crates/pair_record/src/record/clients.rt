@@ -137,9 +137,7 @@ impl PairRecord {
             return Err(Refusal::Exhausted);
         }
         self.journal.reserve_frame(bytes.len())?;
-        let Ok(number) = self.ports.deliver(client, bytes) else {
-            unreachable!();
-        };
+        let number = self.ports.put(client, bytes);
         self.journal.add(Entry::Delivered(client, bytes, number));
         Ok(number)
     }

@@ -17,8 +17,7 @@ use crate::limits::FULL_CHECKPOINT;
 use crate::window::Window;
 use failover::Mode;
 use memory_wanted::MemoryWanted;
-use pair_history::Frame;
-use pair_journal::count_landings;
+use pair_history::{Frame, count_landings};
 
 impl PairRecord {
     /// Makes room for so many frames to be handed out.

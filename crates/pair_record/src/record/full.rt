@@ -11,8 +11,7 @@ ghost use Rattle.failover.specs.Modes.{is_filling as filling};
 use super::PairRecord;
 use crate::event::Reply;
 use memory_wanted::MemoryWanted;
-use pair_history::Frame;
-use pair_journal::count_landings;
+use pair_history::{Frame, count_landings};
 
 impl PairRecord {
     /// An epoch of the guest goes to the history, and what it sent along it lands, as [`PairRecord::enter_epoch`] says; and then the full

@@ -18,8 +18,7 @@ use frame_list::FrameList;
 use frame_ports::NUMBER_LIMIT;
 use memory_wanted::MemoryWanted;
 use output_gate::Gate;
-use pair_history::Frame;
-use pair_journal::count_lists;
+use pair_history::{Frame, count_lists};
 
 /// What the gate holds of committed checkpoints, where this is the window of those that it holds.
 fn committed_frames(window: Window, gate: &Gate) -> &[Frame]

@@ -1,12 +1,12 @@
 use Rattle.std.proofs.Common.{rules, arith, ◌≡◌, ◌∙◌, ◌+◌, ◌-◌, length, ap, sym}
 use Rattle.frame_ports.specs.Addresses.{targets_of}
-use Rattle.pair_journal.specs.Epochs.{behind, guest_epoch}
-use Rattle.pair_journal.specs.Journal.{Journal, all_entries}
+use Rattle.pair_history.specs.Epochs.{behind, guest_epoch}
+use Rattle.pair_history.specs.Journal.{Journal, all_entries}
 use Rattle.pair_record.specs.Protocol.{landed_after}
 use Rattle.pair_record.specs.Record.{ports_landed}
 use Rattle.pair_record.specs.internal.RecordFields.{record_state}
 use Rattle.pair_record.specs.laws.Numbers.{lone_came, lone_numbers, lone_ports, same_numbers}
-use Rattle.pair_journal.specs.laws.Epochs.{all-entered}
+use Rattle.pair_history.specs.laws.Epochs.{all-entered}
 use Rattle.pair_record.specs.laws.{Records.{entered_record, same_record}, Tables.{passed, has_room_for}}
 use Rattle.pair_record.proofs.record.PairRecord.enter_epoch.Goals as goal
 

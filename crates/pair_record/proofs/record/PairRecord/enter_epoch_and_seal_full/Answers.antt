@@ -1,8 +1,8 @@
 use Rattle.std.proofs.Common.{arith, ◌≡◌, ◌∙◌, [], length, ap}
 use Rattle.frame_ports.specs.Numbers.{renumbered}
-use Rattle.pair_journal.specs.Journal.{Journal, all_entries}
+use Rattle.pair_history.specs.Journal.{Journal, all_entries}
 use Rattle.pair_record.specs.internal.RecordFields.{record_state}
-use Rattle.pair_journal.specs.laws.Epochs.{all-entered}
+use Rattle.pair_history.specs.laws.Epochs.{all-entered}
 use Rattle.pair_record.specs.laws.Numbers.{lone_came, lone_ports}
 use Rattle.pair_record.specs.laws.Records.{none_yet}
 use Rattle.pair_record.specs.laws.Tables.{passed, has_room_for}

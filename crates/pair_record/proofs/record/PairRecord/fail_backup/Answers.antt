@@ -2,7 +2,7 @@ use Rattle.std.proofs.{Common.{rules, ◌≡◌, ◌∙◌, ◌+◌, [], ◌++�
 use Rattle.output_gate.specs.{Epochs.{frames_of, frames_to}, Gate.GateState}
 use Rattle.frame_ports.specs.Lands.{put_count}
 use Rattle.pair_history.specs.Landings.{landings}
-use Rattle.pair_journal.specs.Journal.{all_committed, with_history}
+use Rattle.pair_history.specs.Journal.{all_committed, with_history}
 use Rattle.frame_ports.specs.Addresses.{targets_of}
 use Rattle.pair_record.specs.Protocol.{all_held, fail_backup_done}
 use Rattle.pair_record.specs.{Record.{first_held, ports_after_all}, internal.RecordFields.record_state}

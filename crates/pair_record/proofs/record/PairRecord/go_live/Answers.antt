@@ -2,10 +2,10 @@ use Rattle.std.proofs.Common.{rules, ◌≡◌, ◌∙◌, ◌+◌, ◌-◌, [],
 use Rattle.output_gate.specs.Landings.{ports_after}
 use Rattle.pair_history.specs.{Entries.{Frame, Entry}, Failures.drops_of_taken_in}
 use Rattle.pair_record.specs.FailureActs.{entries_with, first_uncommitted, live_done}
-use Rattle.pair_journal.specs.Journal.{kept_entries, discarded, with_history}
+use Rattle.pair_history.specs.Journal.{kept_entries, discarded, with_history}
 use Rattle.pair_record.specs.Record.{RecordState}
 use Rattle.pair_record.specs.internal.RecordFields.{record_state}
-use Rattle.pair_journal.specs.LandedEntries.{all_frames, entries_after}
+use Rattle.pair_history.specs.LandedEntries.{all_frames, entries_after}
 use Rattle.pair_record.specs.Kept.{brought, brought_entries, ports_after_brought}
 use Rattle.pair_record.specs.laws.{Owed.{brought_landings, brought_ports}, Records.live_record}
 use Rattle.pair_record.proofs.LiveLaws.{goes_on_twice, live_fits}

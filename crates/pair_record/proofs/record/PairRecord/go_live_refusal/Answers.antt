@@ -2,7 +2,7 @@ use Rattle.std.proofs.Common.{rules, ◌≡◌, ◌∙◌, ◌+◌, ◌-◌, ◌
 use Rattle.frame_ports.specs.Limits.{number_limit}
 use Rattle.pair_history.specs.Entries.{Frame, Entry}
 use Rattle.pair_record.specs.{FailureActs.{first_uncommitted, live_refusals}, Record.RecordState, internal.RecordFields.record_state}
-use Rattle.pair_journal.specs.LandedEntries.{all_frames, entries_after}
+use Rattle.pair_history.specs.LandedEntries.{all_frames, entries_after}
 use Rattle.pair_record.specs.Kept.{brought_entries, brought_refusals}
 use Rattle.pair_record.specs.{declared.event.Refusal.TheVariants.Exhausted, Protocol.first_refusal}
 use Rattle.pair_record.specs.laws.Owed.{brought_landings}

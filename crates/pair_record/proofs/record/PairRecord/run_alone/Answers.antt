@@ -1,8 +1,8 @@
 use Rattle.std.proofs.{Common.{rules, ◌≡◌, ◌∙◌, ◌+◌, ◌-◌, ◌++◌, length, replicate, sym, ap, arith}, lemmas.List.{length-append, length-replicate}}
 use Rattle.frame_ports.specs.Addresses.{targets_of}
 use Rattle.pair_history.specs.{Entries.Ran, Landings.landings}
-use Rattle.pair_journal.specs.Journal.{Journal, all_entries, with_history}
-use Rattle.pair_journal.specs.laws.Joined.{length-all}
+use Rattle.pair_history.specs.Journal.{Journal, all_entries, with_history}
+use Rattle.pair_history.specs.laws.Joined.{length-all}
 use Rattle.pair_record.specs.Record.{ports_landed}
 use Rattle.pair_record.specs.internal.RecordFields.{record_state}
 use Rattle.pair_record.proofs.{AloneLaws.few_targets, LiveLaws.goes_on_twice}

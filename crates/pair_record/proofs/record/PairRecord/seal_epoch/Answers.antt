@@ -1,6 +1,6 @@
 use Rattle.std.proofs.Common.{rules, arith, refl}
 use Rattle.pair_record.specs.EpochActs.{seal_epoch_done}
-use Rattle.pair_journal.specs.Epochs.{guest_epoch, behind}
+use Rattle.pair_history.specs.Epochs.{guest_epoch, behind}
 use Rattle.pair_record.specs.internal.RecordFields.{record_state}
 use Rattle.pair_record.specs.laws.{Numbers.{sealed_numbers, same_numbers}, Tables.has_room_for, Records.{rising, sealed_record}}
 use Rattle.pair_record.specs.laws.Records.{same_record}

@@ -1,6 +1,0 @@
-use Rattle.std.proofs.Common.{rules, arith}
-use Rattle.pair_journal.proofs.JournalLaws.{epoch-steps}
-use Rattle.pair_journal.proofs.journal.Journal.run.Goals as goal
-
-pub returns : goal.returns
-returns c = search (arith, rules, epoch-steps)

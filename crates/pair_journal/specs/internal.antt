@@ -1,5 +1,0 @@
--- what only models, private functions and proofs cite
-pub mod Arrivals
-pub mod JournalFields
-pub mod NewFrames
-pub mod Places

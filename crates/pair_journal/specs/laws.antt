@@ -1,4 +1,0 @@
--- Laws of these definitions, which the proofs above cite: each is a fact of a line or two, and its proof stands below it.
-pub mod Joined
-pub mod Epochs
-pub mod Landed
