@@ -94,7 +94,7 @@ pub(crate) fn commit<P: Pair>(
     }
     let is_next = !book.is_earlier(checkpoint);
     let ack = book.commit(clock, seat, Some(checkpoint))?;
-    book.entries();
+    book.keep();
     Ok(Committed { ack, is_next })
 }
 
@@ -135,6 +135,6 @@ pub(crate) fn go_live<P: Pair>(
     steps_go_on();
     let kept = image.kept();
     let runner = book.go_live(clock, seat, kept.first(), kept.epochs())?;
-    book.entries();
+    book.keep();
     Ok(runner)
 }
