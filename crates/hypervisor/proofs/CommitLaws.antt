@@ -1,9 +1,10 @@
 -- What a backup's commit makes of it.
-use Rattle.std.proofs.Common.{◌≡◌, ℕ, List, [], ◌∷◌, refl, sym, ap, ◌∙◌, subst, Bool, true, false, Option, Some, None}
-use Rattle.std.specs.Prelude.{◌==◌, ◌&&◌, not, nat_lt, nat_le}
+use Rattle.std.proofs.Common.{◌≡◌, ℕ, List, [], ◌∷◌, refl, sym, ap, ◌∙◌, subst, Bool, true, false, Option, Some, None, Ok, inl, inr}
+use Rattle.std.specs.Prelude.{◌==◌, ◌&&◌, not, nat_lt, nat_le, IfSome, option_map}
 use Rattle.std.specs.List.{Contains}
 use Rattle.memory_wanted.specs.Wanted.{wanted}
-use Rattle.backup_image.specs.Images.{ImageState, applied}
+use Rattle.backup_image.specs.Images.{ImageState, stage_answer}
+use Rattle.backup_image.specs.declared.standing.Staged.TheVariants.{New}
 use Rattle.backup_image.specs.Kept as images
 use Rattle.backup_image.specs.Limits.{number_limit}
 use Rattle.checkpoint_stream.specs.Readings.{Reading}
@@ -22,7 +23,7 @@ use Rattle.pair_book.specs.Commits.{commit_of, may_commit, is_next, is_earlier, 
 use Rattle.pair_book.specs.Commits.{WasRead, StandsAfterNext, StandsAfterAgain}
 use Rattle.pair_book.specs.Made.{IsShape}
 use Rattle.hypervisor.specs.Backups.{backup_state, new_backup, ImageStands, IsBackup}
-use Rattle.hypervisor.specs.Commits.{AtBook, image_after, commit_refusals, MayRefuseCommit, or_unnumbered, why_not}
+use Rattle.hypervisor.specs.Commits.{AtBook, Commits, image_after, read_after_refusal, commit_refusals, MayRefuseCommit, or_unnumbered, why_not}
 use Rattle.hypervisor.specs.Refusals.{MayRefuseUnless}
 use Rattle.hypervisor.proofs.ReadsOnLaws.{nothing-came}
 use Rattle.hypervisor.proofs.{StandLaws.{stage-new, stage-again, stands-applied}, Steps.{makes-step, looks-at}, Whys.{first, later}}
@@ -177,11 +178,6 @@ pub stands-after : (start : HistoryState) (c : Change) (ack : Ack) (i : ImageSta
 stands-after start c ack i seat seat' true at = at.stands
 stands-after start c ack i seat seat' false at = at.stands
 
-pub stands-applied-then : (start : HistoryState) (i : ImageState) (seat : Member) (is_next : Bool) (read : Option Change) (c : Change)
-    → is_next ≡ true → read ≡ Some c → ImageStands start seat (image_after is_next i read) → ImageStands start seat (applied i (Some c))
-stands-applied-then start i seat is_next read c next is stands =
-    subst (λ (x : Bool × Option Change). ImageStands start seat (image_after x.0 i x.1)) (λ k. (next k, is k)) stands
-
 -- IT IS A BACKUP, and stays one
 
 pub new_is_backup : (start : HistoryState) (image : ImageState) (seat : Member) → image.staged ≡ None → IsShape start image.shape
@@ -197,10 +193,17 @@ new_is_backup start image seat unstaged shape stands = record {
   stands = stands;
 }
 
-module _ (start : HistoryState) (image : ImageState) (reading : Reading) (read : Option Change) (seat : Member)
-    (h : IsBackup start (backup_state image reading read seat)) where
-  pub given-up : IsBackup start (backup_state image reading None seat)
-  given-up = record {
+-- what was read by a reference is what was read
+pub if-read : {A : Type 0} (read : Option A) (of : A → Change) (P : Change → Type 0) → IfSome read (λ c. P (of c))
+    → IfSome (option_map of read) P
+if-read None of P h = tt
+if-read (Some c) of P h = h
+
+module _ (start : HistoryState) (image : ImageState) (reading : Reading) (seat : Member) where
+  pub given-up : (given_up : Bool) (read : Option Change) → IsBackup start (backup_state image reading read seat)
+      → IsBackup start (backup_state image reading (read_after_refusal given_up read) seat)
+  given-up false read h = h
+  given-up true read h = record {
     unstaged = h.unstaged;
     unfinished = h.unfinished;
     shape = h.shape;
@@ -211,17 +214,52 @@ module _ (start : HistoryState) (image : ImageState) (reading : Reading) (read :
     stands = h.stands;
   }
 
-  pub taken-in : (c : Change) (now : ImageState) (seat' : Member) → now ≡ applied image (Some c)
-      → ImageStands start seat' (applied image (Some c)) → IsBackup start (backup_state now reading None seat')
-  taken-in c now seat' is stands =
-      subst (λ (i : ImageState). IsBackup start (backup_state i reading None seat')) (sym is)
-      (record {
-        unstaged = refl;
-        unfinished = h.unfinished;
-        shape = h.shape;
-        reads_on = h.reads_on;
-        read_shape = λ d e. absurd (cc);
-        was_read = λ d e. absurd (cc);
-        pair_shape = h.pair_shape;
-        stands = stands;
-      })
+  -- once it has committed what it read
+  unstaged-after : (is_next : Bool) (read : Option Change) → image.staged ≡ None → (image_after is_next image read).staged ≡ None
+  unstaged-after true None e = e
+  unstaged-after true (Some c) e = refl
+  unstaged-after false read e = e
+
+  shape-after : (is_next : Bool) (read : Option Change) → (image_after is_next image read).shape ≡ image.shape
+  shape-after true None = refl
+  shape-after true (Some c) = refl
+  shape-after false read = refl
+
+  module _ (seat' : Member) (is_next : Bool) (read : Option Change) where
+    pub taken-in : IsBackup start (backup_state image reading read seat) → ImageStands start seat' (image_after is_next image read)
+        → IsBackup start (backup_state (image_after is_next image read) reading None seat')
+    taken-in h stands = record {
+      unstaged = unstaged-after is_next read h.unstaged;
+      unfinished = h.unfinished;
+      shape = h.shape ∙ sym (shape-after is_next read);
+      reads_on = h.reads_on;
+      read_shape = λ d e. absurd (cc);
+      was_read = λ d e. absurd (cc);
+      pair_shape = subst (λ (s : Shape). IsShape start s) (sym (shape-after is_next read)) h.pair_shape;
+      stands = stands;
+    }
+
+  module _ (seat' : Member) (ack : Ack) where
+    -- the image can take in the next one
+    pub new-if-next : (is_next : Bool) (read : Option Change) → IfSome read (λ c. AtBook is_next start c ack image seat seat')
+        → is_next ≡ true → IfSome read (λ c. stage_answer image c ≡ Ok New)
+    new-if-next true None at is = tt
+    new-if-next true (Some c) at is = at.new
+    new-if-next false read at is = absurd (cc)
+
+    pub commits : (is_next : Bool) (read : Option Change) → IfSome read (λ c. AtBook is_next start c ack image seat seat')
+        → IfSome read (λ c. Commits start c ack (backup_state image reading read seat)
+        (backup_state (image_after is_next image read) reading None seat'))
+    commits is_next None at = tt
+    commits true (Some c) at =
+        inl (record { acknowledged = at.acknowledged; next = at.new; is = refl; number = at.number; step = at.step })
+    commits false (Some c) at =
+        inr
+        (record {
+          acknowledged = at.acknowledged;
+          last = at.last;
+          again = at.again;
+          is = refl;
+          number = at.number;
+          looks = at.looks;
+        })

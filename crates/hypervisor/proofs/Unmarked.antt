@@ -16,7 +16,7 @@ use Rattle.pair_book.specs.declared.failures.Ack.{Ack}
 use Rattle.pair_history.specs.HistoryState.{HistoryState}
 use Rattle.pair_record.specs.declared.event.Refusal.{Refusal}
 use Rattle.hypervisor.specs.Backups.{BackupState}
-use Rattle.hypervisor.specs.Commits.{Commits, AfterRefusedCommit, gives_up, after_refusal}
+use Rattle.hypervisor.specs.Commits.{Commits, AfterRefusedCommit, gives_up, read_after_refusal}
 use Rattle.hypervisor.specs.FirstBackups.{packet_of, IsSealed, IsFirstBackup, HasSeen, Hears, AnswersPacket, AfterPacket}
 use Rattle.hypervisor.specs.Opening.{unseen}
 use Rattle.hypervisor.specs.Seats.{MakesStep, Looks}
@@ -104,7 +104,7 @@ refused-on : (h : HistoryState) (why : Refusal) (old new : BackupState) → IsFi
     → IsFirstBackup h new
 refused-on h why old new f is = subst (IsFirstBackup h) (sym is) (by_test (gives_up why))
   where
-    by_test : (t : Bool) → IsFirstBackup h (after_refusal t old)
+    by_test : (t : Bool) → IsFirstBackup h (record old { read = read_after_refusal t old.read })
     by_test true = read-on h old None f tt
     by_test false = f
 

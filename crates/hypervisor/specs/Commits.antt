@@ -97,10 +97,10 @@ gives_up Stale = true
 gives_up Gap = true
 gives_up other = false
 
-abbrev pub after_refusal : Bool → BackupState → BackupState
-after_refusal true b = record b { read = None }
-after_refusal false b = b
+abbrev pub read_after_refusal : Bool → Option Change → Option Change
+read_after_refusal true read = None
+read_after_refusal false read = read
 
 -- all else is as before
 abbrev pub AfterRefusedCommit : Refusal → BackupState → BackupState → Type 0
-AfterRefusedCommit why old new = new ≡ after_refusal (gives_up why) old
+AfterRefusedCommit why old new = new ≡ record old { read = read_after_refusal (gives_up why) old.read }

@@ -7,7 +7,7 @@ ghost use Rattle.pair_book.specs.Commits.{WasRead};
 ghost use Rattle.pair_book.specs.Made.{IsShape};
 ghost use Rattle.pair_book.specs.Settled.{settled_runner, Runs};
 ghost use Rattle.hypervisor.specs.Backups.{new_backup, ImageStands, HasHistorysGuest};
-ghost use Rattle.hypervisor.specs.Commits.{Commits, MayRefuseCommit, AfterRefusedCommit, gives_up};
+ghost use Rattle.hypervisor.specs.Commits.{Commits, MayRefuseCommit, AfterRefusedCommit, gives_up, read_after_refusal};
 ghost use Rattle.hypervisor.specs.Feeding.{Feeds};
 ghost use Rattle.hypervisor.specs.FirstBackups.{AfterPacket, AnswersPacket, HasSeen, Hears, ReadsWhole, is_all_of};
 ghost use Rattle.hypervisor.specs.GoingLive.{BecomesLive, GoesLiveWith, live_refusals};
@@ -185,20 +185,14 @@ impl<P: Pair> Backup<P> {
                 self.read.as_ref(),
             )
         };
+        // What was read is given up by calls: else the proof would go over every part of it here.
         match answer {
             Ok(Committed { ack, is_next }) => {
-                let Some(checkpoint) = self.read.take() else {
-                    unreachable!();
-                };
-                if is_next {
-                    take_in(&mut self.image, checkpoint);
-                }
+                take_in(is_next, &mut self.image, &mut self.read);
                 Ok(ack)
             }
             Err(why) => {
-                if gives_up(&why) {
-                    self.read = None;
-                }
+                give_up(&why, &mut self.read);
                 Err(why)
             }
         }
@@ -325,11 +319,13 @@ fn resumed<P: Pair>(
     }
 }
 
-/// Whether what was read can't be committed any more after this refusal of its commit.
-fn gives_up(why: &Refusal) -> bool
-    ensures { result ≡ gives_up why.now }
+/// What was read is given up where it can't be committed any more after this refusal of its commit.
+fn give_up(why: &Refusal, read: &mut Option<Checkpoint>)
+    ensures { read.new ≡ read_after_refusal (gives_up why.now) read.old }
 {
-    matches!(why, Refusal::OldVersion | Refusal::Stale | Refusal::Gap)
+    if matches!(why, Refusal::OldVersion | Refusal::Stale | Refusal::Gap) {
+        *read = None;
+    }
 }
 
 /// Each byte is below 256.

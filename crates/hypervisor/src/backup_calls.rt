@@ -1,7 +1,7 @@
 //! What a backup calls at the book, which is lent to it, and how its image takes a checkpoint in.
-ghost use Rattle.std.specs.Prelude.{◌≡◌, ℕ, ◌+◌, ◌<◌, not, IfOk, OnOk, IfErr, OnErr, IfSome, IsSome, None, Some, Ok, nat_lt, option_map};
+ghost use Rattle.std.specs.Prelude.{◌≡◌, ℕ, ◌+◌, ◌<◌, true, not, IfOk, OnOk, IfErr, OnErr, IfSome, IsSome, None, Some, Ok, nat_lt, option_map};
 ghost use Rattle.std.specs.List.{Contains};
-ghost use Rattle.backup_image.specs.Images.{ImageState, applied, stage_answer, settled_machine};
+ghost use Rattle.backup_image.specs.Images.{stage_answer};
 ghost use Rattle.backup_image.specs.Kept.{sent_with, first_kept};
 ghost use Rattle.backup_image.specs.Limits.{number_limit};
 ghost use Rattle.backup_image.specs.declared.standing.Staged.TheVariants.{New};
@@ -94,19 +94,26 @@ pub(crate) fn commit<P: Pair>(
     }
     let is_next = !book.is_earlier(checkpoint);
     let ack = book.commit(clock, seat, Some(checkpoint))?;
-    book.entries();
+    book.keep();
     Ok(Committed { ack, is_next })
 }
 
-/// The image takes in this checkpoint, which is its next one, as the caller knows.
-pub(crate) fn take_in(image: &mut Image, checkpoint: Checkpoint)
-    requires shape { checkpoint.shape ≡ image.old.shape }
+/// What was read is given up once it is committed, and where it is the image's next checkpoint, as the caller knows, the image takes it in.
+pub(crate) fn take_in(is_next: bool, image: &mut Image, read: &mut Option<Checkpoint>)
     requires unstaged { image.old.staged ≡ None }
-    requires new { stage_answer image.old checkpoint ≡ Ok New }
-    ensures { image.new ≡ applied image.old (Some checkpoint) }
+    requires shape { IfSome read.old (λ c. c.shape ≡ image.old.shape) }
+    requires new { is_next ≡ true → IfSome read.old (λ c. stage_answer image.old c ≡ Ok New) }
+    ensures image { image.new ≡ image_after is_next image.old read.old }
+    ensures read { read.new ≡ None }
 {
-    let _new = image.stage(checkpoint);
-    image.commit();
+    match read.take() {
+        Some(checkpoint) if is_next => {
+            let _new = image.stage(checkpoint);
+            image.commit();
+        }
+        Some(checkpoint) => drop(checkpoint),
+        None => {}
+    }
 }
 
 /// The backup of this image goes live, as [`Book::go_live`] says. It hands over the frames that the image keeps.
@@ -135,6 +142,6 @@ pub(crate) fn go_live<P: Pair>(
     steps_go_on();
     let kept = image.kept();
     let runner = book.go_live(clock, seat, kept.first(), kept.epochs())?;
-    book.entries();
+    book.keep();
     Ok(runner)
 }

@@ -1,16 +1,17 @@
 //! A pair at its start: its members, with what they share.
-ghost use Rattle.std.specs.Prelude.{◌≡◌, ◌≤◌, ◌*◌, [], IfOk, Ok, length};
+ghost use Rattle.std.specs.Prelude.{◌≡◌, ◌≤◌, ◌<◌, ◌+◌, ◌*◌, [], IfOk, Ok, length};
 ghost use Rattle.frame_ports.specs.Limits.{max_clients};
-ghost use Rattle.growing_history.specs.LogState.{first_runner, first_backup, line_seat};
+ghost use Rattle.growing_history.specs.LogState.{first_runner, first_backup, line_seat, client_seat};
 ghost use Rattle.pair_book.specs.Books.{start_book};
 ghost use Rattle.backup_image.specs.Images.{settled_machine};
 ghost use Rattle.guest_machine.specs.Guest.{boot_guest};
 ghost use Rattle.guest_machine.specs.Limits.{page_bytes};
+ghost use Rattle.pair_book.specs.Calls.{client_of};
 ghost use Rattle.pair_book.specs.Made.{IsShape};
 ghost use Rattle.pair_book.specs.Opening.{IsBoot};
 ghost use Rattle.pair_history.specs.Reached.{IsReached};
 ghost use Rattle.hypervisor.specs.Backups.{new_backup};
-ghost use Rattle.hypervisor.specs.Opening.{new_clients, AreNew, IsStarted, start_with, first_image, unseen};
+ghost use Rattle.hypervisor.specs.Opening.{new_client, new_clients, AreNew, IsStarted, start_with, first_image, unseen};
 ghost use Rattle.hypervisor.specs.Runners.{new_runner};
 
 use crate::backup::Backup;
@@ -130,12 +131,22 @@ fn client_seats<P: Pair>(
 {
     let mut seats = Vec::with_capacity(alloc, clients as usize)?;
     for _ in 0..clients {
-        let Some(seat) = book.next_client(clock) else {
-            unreachable!();
-        };
-        seats.push(CallerSeat::of(seat))?;
+        seats.push(next_seat(clock, book))?;
     }
     Ok(seats)
+}
+
+/// Gives out the seat of the next client. There is one that has none yet, as the caller knows.
+fn next_seat<P: Pair>(clock: &Clock<P>, book: &mut NewBook<P>) -> CallerSeat<P>
+    requires first { book.old.steps ≡ [] }
+    requires more { book.old.enrolled < client_seat (length book.old.ports.boxes) }
+    ensures seat { result ≡ new_client (client_of (book.old.enrolled + 1)) }
+    ensures book { book.new ≡ record book.old { enrolled = book.old.enrolled + 1 } }
+{
+    let Some(seat) = book.next_client(clock) else {
+        unreachable!();
+    };
+    CallerSeat::of(seat)
 }
 
 /// Gives each of these seats to a client.

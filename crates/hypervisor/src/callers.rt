@@ -13,6 +13,7 @@ ghost use Rattle.hypervisor.specs.AtBook.{KeepsBookUnlessFull};
 ghost use Rattle.hypervisor.specs.Looking.{SeesAll};
 ghost use Rattle.hypervisor.specs.Refusals.{MayRefuseDelivery, entry_refusals};
 
+use crate::seats::keep_seat;
 use growing_history::{Badge, ClientSeat, Clock, Pair, a_call_is_a_point_of_one_history};
 use pair_book::{Book, LINE_SEAT, Refusal};
 use pair_history::Frame;
@@ -43,14 +44,19 @@ impl<P: Pair> CallerSeat<P> {
         CallerSeat { seat }
     }
 
-    /// The client's number, from 1.
+    /// The client's number, from 1 up to the number of clients.
     pub(crate) fn number(&self) -> u64
         ensures number { result ≡ self.now.number }
-        // What is true of every client.
         ensures client { (1 ≤ result) × (result ≤ length P.start.boxes) }
-        ensures legal { LegalSteps P.start self.now.seen }
     {
         self.seat.number() - LINE_SEAT
+    }
+
+    /// What is true of every client's seat is true of this one.
+    pub(crate) fn keep(&self)
+        ensures { LegalSteps P.start self.now.seen }
+    {
+        keep_seat(&self.seat);
     }
 
     /// The client delivers a frame, as [`Book::deliver`] says.
@@ -75,9 +81,9 @@ impl<P: Pair> CallerSeat<P> {
         ensures kept { IfErr result (KeepsBookUnlessFull self.old.number (record { items = bytes.now }) book.old book.new) }
     {
         a_call_is_a_point_of_one_history();
-        book.entries();
+        book.keep();
         let delivered = book.deliver(clock, &mut self.seat, bytes);
-        self.seat.number();
+        keep_seat(&self.seat);
         delivered
     }
 
@@ -103,7 +109,7 @@ impl<P: Pair> CallerSeat<P> {
     {
         a_call_is_a_point_of_one_history();
         let taken = book.take(clock, &mut self.seat, into);
-        self.seat.number();
+        keep_seat(&self.seat);
         taken
     }
 

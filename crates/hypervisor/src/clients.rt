@@ -44,11 +44,16 @@ impl<P: Pair> Client<P> {
     /// Its number, from 1 up to the number of clients.
     pub fn number(&self) -> u64
         ensures number { result ≡ self.now.number }
-        // What is true of every client.
         ensures client { (1 ≤ result) × (result ≤ length P.start.boxes) }
-        ensures legal { LegalSteps P.start self.now.seen }
     {
         self.seat.number()
+    }
+
+    /// What is true of every client is true of this one.
+    pub fn keep(&self)
+        ensures { LegalSteps P.start self.now.seen }
+    {
+        self.seat.keep();
     }
 
     /// Delivers a frame of these bytes: it goes last into the client's inbox. Answers its number, counted from 1 over all clients. What the

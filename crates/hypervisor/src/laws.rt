@@ -14,7 +14,7 @@ pub fn answers_are_of_one_guest<P: Pair>(client: &Client<P>)
     ensures { AreOfOneGuest P.start client.now.seen }
 {
     clients_have_one_guest_that_never_fails();
-    client.number();
+    client.keep();
 }
 
 /// And these answers are at points of one growing history: what any two clients of a pair have seen are points of one, in which each

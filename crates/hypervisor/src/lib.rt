@@ -17,6 +17,7 @@ mod looking;
 mod losses;
 mod runner;
 mod sealed_packet;
+mod seats;
 mod sender;
 mod shared;
 mod warden;

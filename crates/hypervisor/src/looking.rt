@@ -56,6 +56,7 @@ pub(crate) fn look<P: Pair>(
     for place in 0..clients.len() {
         clients[place].look(book, clock);
     }
+    book.keep();
     Found {
         entries: book.entries(),
         generation: book.generation(),

@@ -55,9 +55,9 @@ fn lose_in<P: Pair>(
         (first_refusal (loss_rows book.old client (lost_in (inbox_of book.old.ports client) place)))) }
     ensures kept { IfErr result (λ _. IsAsBefore book.old book.new line.old line.new) }
 {
-    book.entries();
+    book.keep();
     let lost = book.lose_in(clock, line, client, place);
-    line.number();
+    line.keep();
     lost
 }
 
@@ -83,9 +83,9 @@ fn lose_out<P: Pair>(
         (first_refusal (loss_rows book.old client (lost_out client (box_of book.old.ports client) place)))) }
     ensures kept { IfErr result (λ _. IsAsBefore book.old book.new line.old line.new) }
 {
-    book.entries();
+    book.keep();
     let lost = book.lose_out(clock, line, client, place);
-    line.number();
+    line.keep();
     lost
 }
 

@@ -23,6 +23,7 @@ ghost use Rattle.hypervisor.specs.Runners.{RunnerState, runner_state, new_runner
 ghost use Rattle.hypervisor.specs.Runs.{after_arrivals, frames_of, steps_asked, HasRun};
 ghost use Rattle.hypervisor.specs.Submits.{Submits, BeginsEpoch};
 
+use crate::seats::keep_seat;
 use crate::shared::Shared;
 use epoch_snapshot::{Checkpoint, SnapshotError, cut_delta, cut_full};
 use frame_ports::NUMBER_LIMIT;
@@ -125,7 +126,7 @@ impl<P: Pair> Runner<P> {
             → Holds G.answers G.STRETCH result pace.old pace.new }
     {
         self.shared.keep();
-        self.seat.number();
+        keep_seat(&self.seat);
         has_records(&self.machine);
         runs_go_on::<P>();
         take_in(&mut self.machine, &self.held);
@@ -263,8 +264,8 @@ fn submit<P: Pair>(
     ensures among { IfErr result (Contains submit_refusals) }
     ensures refused { OnErr result ((seat.new ≡ seat.old) × (book.new ≡ book.old)) }
 {
-    book.entries();
-    seat.number();
+    book.keep();
+    keep_seat(seat);
     steps_go_on();
     members_go_on();
     runners_bring_what_they_have();
@@ -272,7 +273,7 @@ fn submit<P: Pair>(
         Ok(next) => next,
         Err(why) => return Err(why),
     };
-    seat.number();
+    keep_seat(seat);
     Ok(next.frames)
 }
 

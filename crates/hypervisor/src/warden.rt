@@ -24,6 +24,7 @@ use crate::clients::Client;
 use crate::first_backup::FirstBackup;
 use crate::looking::{Found, LaterGeneration, look, look_beside};
 use crate::runner::Runner;
+use crate::seats::keep_seat;
 use crate::shared::Shared;
 use backup_image::{Image, ImageError};
 use growing_history::{BackupSeat, Clock, Pair};
@@ -107,7 +108,7 @@ fn protect<P: Pair>(book: &mut Book<P>, clock: &Clock<P>) -> Result<BackupSeat<P
     ensures refused { OnErr result (book.new ≡ book.old) }
 {
     let seat = book.protect(clock)?;
-    seat.number();
+    keep_seat(&seat);
     Ok(seat)
 }
 

@@ -1,18 +1,22 @@
 -- What each call of a client keeps of the tie.
-use Rattle.std.proofs.Common.{◌≡◌, ℕ, ◌-◌, ◌≤◌, List, [], ◌∷◌, ◌++◌, length, drop, sym, ap, ◌∙◌, subst, arith}
+use Rattle.std.proofs.Common.{◌≡◌, ℕ, ◌-◌, ◌≤◌, List, [], ◌∷◌, ◌++◌, length, drop, refl, sym, ap, ◌∙◌, subst, arith, Bool, true, Option, inl, inr}
 use Rattle.std.proofs.lemmas.List.{length-set}
-use Rattle.std.specs.Prelude.{slice_get}
-use Rattle.frame_ports.specs.{Addresses.{IsFrame}, Lands.{list_of}, Limits.{inbox_frames}, Ports.{PortsState, IsClient, after_delivery}}
+use Rattle.std.proofs.lemmas.Bool.Decides.{nat_tests}
+use Rattle.std.specs.Prelude.{slice_get, not, nat_le}
+use Rattle.frame_ports.specs.{Addresses.{IsFrame}, Lands.{list_of}, Limits.{inbox_frames, number_limit}, Ports.{PortsState, IsClient, after_delivery, inbox_of}}
 use Rattle.pair_history.specs.Entries.{Frame, Entry, Delivered, Refused, Took}
 use Rattle.pair_history.specs.HistoryState.{HistoryState}
 use Rattle.pair_record.specs.Journal.{with_history}
-use Rattle.pair_record.specs.Protocol.{Record, deliver_done, take_done}
+use Rattle.pair_record.specs.declared.event.Refusal.{Refusal}
+use Rattle.pair_record.specs.declared.event.Refusal.TheVariants.{NoClient, BadFrame, Exhausted, Full, NoMemory}
+use Rattle.pair_record.specs.Protocol.{Record, Row, deliver_done, take_done, first_refusal, is_among, is_bad_length, exhausts, entry_refusals}
+use Rattle.pair_record.specs.Protocol.{take_refusals, deliver_refusals, RefusesDelivery, Refuses}
 use Rattle.pair_record.specs.Record.{ports_after_take}
 use Rattle.pair_record.specs.Accords.{Accords}
 use Rattle.pair_record.specs.laws.Clients.{take_accords, deliver_accords, full_accords}
 use Rattle.growing_history.specs.Steps.{Step, step, Added}
 use Rattle.growing_history.specs.LogState.{client_seat, state_at, after_step}
-use Rattle.pair_book.specs.Calls.{IsClientSeat, client_of}
+use Rattle.pair_book.specs.Calls.{IsClientSeat, client_of, IsWhy, IsWhyDelivery}
 use Rattle.pair_book.specs.internal.{Tie.IsTied, Waits.AreWaiting}
 use Rattle.pair_book.proofs.{Ties.{added-tied, gained, tied-guests, tied-still}, Waits.delivered-waiting}
 
@@ -21,8 +25,39 @@ pub is_client_of : (start : HistoryState) (steps : List Step) (r : Record) (p : 
     → IsClientSeat start n → IsClient p (client_of n)
 is_client_of start steps r p n t seat = let same = t.clients in (omega (arith, seat.0), omega (arith, seat.0, seat.1, same))
 
+-- so it has a box and an inbox
+pub is-among : (p : PortsState) (n : ℕ) → IsClient p n → is_among n (length p.boxes) ≡ true
+is-among p n h = grind (arith, nat_tests)
+
 pub its-seat : (start : HistoryState) (n : ℕ) → IsClientSeat start n → n ≡ client_seat (client_of n)
 its-seat start n seat = omega (arith, seat.0)
+
+-- WHY ONE IS REFUSED: a client's seat is that of a client, so the tables begin behind that row
+
+pub take-rows : (word_full : Bool) (r : Record) (p : PortsState) (n : ℕ) → IsClient p n
+    → first_refusal (take_refusals word_full (length p.boxes) r n) ≡ first_refusal (entry_refusals word_full r)
+take-rows word_full r p n h =
+    ap (λ (t : Bool). first_refusal ((not t, NoClient) ∷ entry_refusals word_full r)) (is-among p n h)
+
+pub deliver-rows : (word_full : Bool) (r : Record) (p : PortsState) (n : ℕ) (bytes : List ℕ) → IsClient p n
+    → first_refusal (deliver_refusals word_full (length p.boxes) (inbox_of p n) p.next r n bytes)
+    ≡ first_refusal ((is_bad_length (length bytes), BadFrame) ∷ (exhausts r 1, Exhausted) ∷ (word_full, Exhausted)
+    ∷ (nat_le inbox_frames (length (inbox_of p n)), Full) ∷ (nat_le number_limit p.next, Exhausted) ∷ [])
+deliver-rows word_full r p n bytes h =
+    ap
+    (λ (t : Bool). first_refusal ((not t, NoClient) ∷ (is_bad_length (length bytes), BadFrame) ∷ (exhausts r 1, Exhausted)
+    ∷ (word_full, Exhausted) ∷ (nat_le inbox_frames (length (inbox_of p n)), Full) ∷ (nat_le number_limit p.next, Exhausted) ∷ []))
+    (is-among p n h)
+
+pub is-why-delivery : (rows : List Row) (why : Refusal) → RefusesDelivery rows why → IsWhyDelivery (first_refusal rows) why
+is-why-delivery rows (NoMemory w) (inl none) = subst (λ (o : Option Refusal). IsWhyDelivery o (NoMemory w)) (sym none) refl
+is-why-delivery rows (NoMemory w) (inr full) = subst (λ (o : Option Refusal). IsWhyDelivery o (NoMemory w)) (sym full) (inr refl)
+is-why-delivery rows Full e = subst (λ (o : Option Refusal). IsWhyDelivery o Full) (sym e) (inl refl)
+is-why-delivery rows other e = subst (λ (o : Option Refusal). IsWhyDelivery o other) (sym e) refl
+
+pub is-why : (rows : List Row) (wants : Type 0) (why : Refusal) → Refuses rows wants why → IsWhy (first_refusal rows) why
+is-why rows wants (NoMemory w) h = subst (λ (o : Option Refusal). IsWhy o (NoMemory w)) (sym h.0) refl
+is-why rows wants other e = subst (λ (o : Option Refusal). IsWhy o other) (sym e) refl
 
 -- TAKE
 module _ (start : HistoryState) (steps : List Step) (r now : Record) (p q : PortsState) (t : IsTied start steps r p) (by : ℕ)

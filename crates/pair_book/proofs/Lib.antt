@@ -1,4 +1,5 @@
 pub mod Words
+pub mod Calls
 pub mod FailureRows
 pub mod CommitRows
 pub mod LiveLaws
@@ -16,6 +17,7 @@ pub mod StandingLaws
 pub mod StandingCommits
 pub mod LiveTies
 pub mod TextLaws
+pub mod LineLosses
 pub mod NextTexts
 pub mod Start
 pub mod StartSeats

@@ -48,8 +48,13 @@ impl<P: Pair> Model for Book<P> {
 impl<P: Pair> Book<P> {
     /// The length of the history.
     pub fn entries(&self) -> u64
-        ensures length { result ≡ length self.now.protocol.journal.history }
-        // What is true of every book.
+        ensures { result ≡ length self.now.protocol.journal.history }
+    {
+        self.record.history().len()
+    }
+
+    /// What is true of every book is true of this one.
+    pub fn keep(&self)
         ensures history { (state_at P.start self.now.steps).marked ≡ 0
             → self.now.protocol.journal.history ≡ history_of P.start self.now.steps }
         ensures legal { LegalSteps P.start self.now.steps }
@@ -65,8 +70,7 @@ impl<P: Pair> Book<P> {
         ensures boxes { (state_at P.start self.now.steps).marked ≡ 0
             → self.now.ports.boxes ≡ (state_at P.start self.now.steps).history.boxes }
     {
-        self.seats.count();
-        self.record.history().len()
+        self.seats.keep();
     }
 
     /// The pair's generation, from 1.
@@ -115,7 +119,7 @@ impl<P: Pair> Book<P> {
         ensures number { result ≡ client_of seat.now.number }
         ensures client { IsClient self.now.ports result }
     {
-        self.seats.count();
+        self.seats.keep();
         seat.number() - LINE_SEAT
     }
 }

@@ -46,7 +46,7 @@ impl<P: Pair> Book<P> {
     fn may_commit(&self, seat: &BackupSeat<P>) -> bool
         ensures { result ≡ may_commit P.start self.now seat.now.number }
     {
-        self.seats.count();
+        self.seats.keep();
         seat.number() == self.seats.backup() && !is_alone(self.record.mode())
     }
 

@@ -52,12 +52,17 @@ impl<P: Pair> LineSeat<P> {
 
     /// The number under which its steps are made, 3.
     pub fn number(&self) -> u64
-        ensures number { result ≡ self.now.number }
-        // What is true of every line's seat.
+        ensures { result ≡ self.now.number }
+    {
+        self.member.number()
+    }
+
+    /// What is true of every line's seat is true of this one.
+    pub fn keep(&self)
         ensures line { self.now.number ≡ line_seat }
         ensures legal { LegalSteps P.start self.now.steps }
     {
-        self.member.number()
+        let _number = self.member.number();
     }
 
     /// What another may be told: all that the line has seen.

@@ -32,7 +32,7 @@ impl<P: Pair> Book<P> {
     pub(crate) fn may_run(&self, seat: &RunnerSeat<P>) -> bool
         ensures { result ≡ may_run P.start self.now seat.now.number }
     {
-        self.seats.count();
+        self.seats.keep();
         seat.number() == self.seats.runner() && !is_stopped(self.record.mode())
     }
 

@@ -36,8 +36,8 @@ pub record IsRunFrom (start : HistoryState) (lines : List ClientLine) (epochs : 
   pub count : entries ≡ length (history_of start all)
   pub whole : is_whole ≡ true → IsWhole epochs (state_at start all)
 
--- A run of these lines, of a pair that starts there, in which a node has failed, as a look at its end found. There is one legal list of
--- steps, by which the pair is in a later generation than its first, and whose history tells all lines' answers.
+-- There is a legal list of steps, of a pair that starts there, by which it is in a later generation than its first, and whose history tells
+-- answers that all these lines may have got. Whether these steps were made isn't said.
 pub record IsLaterRunFrom (start : HistoryState) (lines : List ClientLine) : Type 0 where
   pub all : List Step
   pub legal : LegalSteps start all
@@ -75,7 +75,7 @@ pub data IsPlayed (file : RunFile) (out out' : Writing) (status : ℕ) : Type 0 
       → WritesFront out out' (run_text clients count) → status ≡ 1 → IsPlayed file out out' status
   -- there is no memory for it, or no thread can be made
   refused : IsSaid out out' (codes "refused 12 NoMemory\n") → status ≡ 1 → IsPlayed file out out' status
-  -- a node has failed in it
+  -- nothing of the run is printed, and a legal list of steps in a later generation tells all lines' answers
   later : IsLaterRunOf file → IsSaid out out' (codes "refused 9 Stale\n") → status ≡ 1 → IsPlayed file out out' status
 
 -- Of any bytes: what standard output and standard error get, and the status.

@@ -31,7 +31,7 @@ returns-clause-done g c =
     let change = c.in-Some.checkpoint.now in
     let done =
     at-book start book after.self seat after.seat change c.in_ok-ack.ack image (sym c.refusal.ensures ∙ c.in_default-refusal.is)
-    c.in_ok-ack.ensures.number c.entries.ensures.legal (rw c.in-Some.is at c.requires.was_read) c.requires.shape
+    c.in_ok-ack.ensures.number c.keep.ensures.legal (rw c.in-Some.is at c.requires.was_read) c.requires.shape
     (rw c.in-Some.is at c.requires.same_shape) c.requires.stands c.in_ok-ack.ensures.done c.in_ok-ack.ensures.acknowledged
     c.in_ok-ack.ensures.stands c.in_ok-ack.ensures.again in
     rw c.in-Some.is
@@ -47,7 +47,7 @@ returns-clause-stands g c =
     let change = c.in-Some.checkpoint.now in
     let done =
     at-book start book after.self seat after.seat change c.in_ok-ack.ack image (sym c.refusal.ensures ∙ c.in_default-refusal.is)
-    c.in_ok-ack.ensures.number c.entries.ensures.legal (rw c.in-Some.is at c.requires.was_read) c.requires.shape
+    c.in_ok-ack.ensures.number c.keep.ensures.legal (rw c.in-Some.is at c.requires.was_read) c.requires.shape
     (rw c.in-Some.is at c.requires.same_shape) c.requires.stands c.in_ok-ack.ensures.done c.in_ok-ack.ensures.acknowledged
     c.in_ok-ack.ensures.stands c.in_ok-ack.ensures.again in
     let at = subst (λ (t : Bool). AtBook (not t) start change c.in_ok-ack.ack image seat after.seat) (sym c.is_earlier-is_next.ensures) done in

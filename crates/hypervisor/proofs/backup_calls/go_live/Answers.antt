@@ -28,7 +28,7 @@ returns-clause-live g c =
     c.first.ensures.value ∙ (λ k. kept.sent k + 1 - count_kept (kept.lists k)) in
     goes-live-with g.P.Pair.start c.args.book.now c.go_live.new.self c.args.seat.now c.go_live.new.seat c.in_ok-runner.runner i
     c.first.result (map (λ v. v.items) c.epochs.result.now) c.in_ok-runner.ensures.step c.in_ok-runner.ensures.runner
-    c.entries.ensures.legal c.steps_go_on.ensures.state c.in_ok-runner.ensures.runs first lists c.requires.stands
+    c.keep.ensures.legal c.steps_go_on.ensures.state c.in_ok-runner.ensures.runs first lists c.requires.stands
 
 pub returns-clause-done : goal.returns-clause-done
 returns-clause-done g c =

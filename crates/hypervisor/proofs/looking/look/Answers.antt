@@ -10,7 +10,7 @@ returns-clause-has g c =
     let start = g.P.Pair.start in
     let law = c.clients_have_one_guest_that_never_fails.ensures in
     let book = c.loop-place.book in
-    let e = c.entries.ensures in
+    let e = c.keep.ensures in
     let has =
     has-found start book e.legal
     (λ none. record {
@@ -22,7 +22,7 @@ returns-clause-has g c =
     subst (λ (x : Found × BookState). HasFound start x.1.steps x.0)
     (λ i. (
       record {
-        entries = sym e.length i;
+        entries = sym c.entries.ensures i;
         generation = sym c.generation.ensures i;
         next = sym c.next_number.ensures i;
         pending = sym c.pending.ensures.pending i;

@@ -10,14 +10,14 @@ pub returns-clause-done : goal.returns-clause-done
 returns-clause-done g c =
     let p = c.args.book.now.ports in
     lost-in g.P.Pair.start c.args.book.now c.lose_in-lost.new.self c.args.line.now c.lose_in-lost.new.seat
-    (sym c.lose_in-lost.ensures.number ∙ c.number.ensures.line) c.number.ensures.legal
-    (ports_after_lose_in p c.args.client c.args.place) c.args.client c.args.place c.lose_in-lost.result c.entries.ensures.inboxes
+    (sym c.lose_in-lost.ensures.number ∙ c.keep-2.ensures.line) c.keep-2.ensures.legal
+    (ports_after_lose_in p c.args.client c.args.place) c.args.client c.args.place c.lose_in-lost.result c.keep.ensures.inboxes
     c.lose_in-lost.ensures.free c.lose_in-lost.ensures.done
 
 pub returns-clause-why : goal.returns-clause-why
 returns-clause-why g c =
     loss-why g.P.Pair.start c.args.book.now c.args.client (lost_in (inbox_of c.args.book.now.ports c.args.client) c.args.place)
-    c.lose_in-lost.result c.entries.ensures.clients c.lose_in-lost.ensures.why
+    c.lose_in-lost.result c.keep.ensures.clients c.lose_in-lost.ensures.why
 
 pub returns-clause-refused : goal.returns-clause-refused
 returns-clause-refused g c =

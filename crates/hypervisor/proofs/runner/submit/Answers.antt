@@ -43,8 +43,8 @@ returns-clause-added g c =
     let a = c.args in
     let r : RunnerState = runner_state a.machine.now a.held.now a.epoch.arrivals a.epoch.steps a.what.now a.seat.now in
     let law = c.steps_go_on.ensures in
-    submits g.P.Pair.start r c.requires a.book.now c.submit.new.self c.submit.new.seat c.in-Ok.ensures.step c.entries.ensures.legal
-    c.number-2.ensures.legal c.entries.ensures.running law.needed law.state c.members_go_on.ensures.runner
+    submits g.P.Pair.start r c.requires a.book.now c.submit.new.self c.submit.new.seat c.in-Ok.ensures.step c.keep.ensures.legal
+    c.keep_seat-2.ensures c.keep.ensures.running law.needed law.state c.members_go_on.ensures.runner
 
 pub returns-clause-runs : goal.returns-clause-runs
 returns-clause-runs g c =
@@ -69,8 +69,8 @@ returns-clause-rest g c =
     (λ (fs : List Frame).
     HandsNext (ended a.book.now a.epoch.arrivals a.epoch.steps fs) (handing b.protocol b.ports c.in-Ok.next.frames.items))
     c.outbox.ensures.value c.in-Ok.ensures.done in
-    none-behind g.P.Pair.start r c.requires a.book.now b c.submit.new.seat c.in-Ok.ensures.step c.entries.ensures.legal
-    c.number-2.ensures.legal c.entries.ensures.running law.needed law.state c.members_go_on.ensures.runner b.ports b.protocol
+    none-behind g.P.Pair.start r c.requires a.book.now b c.submit.new.seat c.in-Ok.ensures.step c.keep.ensures.legal
+    c.keep_seat-2.ensures c.keep.ensures.running law.needed law.state c.members_go_on.ensures.runner b.ports b.protocol
     c.in-Ok.next.frames.items hands
 
 pub returns-clause-handed : goal.returns-clause-handed
@@ -80,5 +80,5 @@ returns-clause-handed g c =
     let law = c.steps_go_on.ensures in
     let on : Runs g.P.Pair.start c.submit.new.seat (settled_runner a.machine.now.guest (a.held.now ++ c.in-Ok.next.frames.items)) =
     returns-clause-runs g c in
-    holds-handed g.P.Pair.start r c.requires a.book.now c.submit.new.self c.submit.new.seat c.in-Ok.ensures.step c.entries.ensures.legal
-    c.number-2.ensures.legal c.entries.ensures.running law.needed law.state c.members_go_on.ensures.runner a.machine.now.guest _ on
+    holds-handed g.P.Pair.start r c.requires a.book.now c.submit.new.self c.submit.new.seat c.in-Ok.ensures.step c.keep.ensures.legal
+    c.keep_seat-2.ensures c.keep.ensures.running law.needed law.state c.members_go_on.ensures.runner a.machine.now.guest _ on

@@ -6,7 +6,7 @@ use Rattle.hypervisor.proofs.callers.CallerSeat.deliver.Goals as goal
 pub returns-clause-done : goal.returns-clause-done
 returns-clause-done g c =
     rw (← c.self.view_is) (delivered g.P.Pair.start c.args.book.now c.deliver-delivered.new.self c.self.inside.seat
-    c.deliver-delivered.new.seat c.self.invariant c.number.ensures.legal c.a_call_is_a_point_of_one_history.ensures.call c.args.bytes.now
+    c.deliver-delivered.new.seat c.self.invariant c.keep_seat.ensures c.a_call_is_a_point_of_one_history.ensures.call c.args.bytes.now
     c.deliver-delivered.result c.deliver-delivered.ensures.step)
 
 pub returns-clause-frame : goal.returns-clause-frame
@@ -22,6 +22,6 @@ returns-clause-why g c =
 pub returns-clause-refused : goal.returns-clause-refused
 returns-clause-refused g c =
     rw (← c.self.view_is) (not-delivered g.P.Pair.start c.args.book.now c.deliver-delivered.new.self c.self.inside.seat
-    c.deliver-delivered.new.seat c.self.invariant c.number.ensures.legal c.a_call_is_a_point_of_one_history.ensures.call
-    c.args.bytes.now c.deliver-delivered.result c.entries.ensures.clients c.entries.ensures.inboxes c.deliver-delivered.ensures.why
+    c.deliver-delivered.new.seat c.self.invariant c.keep_seat.ensures c.a_call_is_a_point_of_one_history.ensures.call
+    c.args.bytes.now c.deliver-delivered.result c.keep.ensures.clients c.keep.ensures.inboxes c.deliver-delivered.ensures.why
     c.deliver-delivered.ensures.refused)

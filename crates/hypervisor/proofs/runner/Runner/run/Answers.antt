@@ -24,5 +24,5 @@ invariant_of-self g c =
       few = search (arith, rules);
       prepared = tt;
       sized = c.runs_go_on.ensures.sized old new made run c.has_records.ensures c.self.invariant.sized;
-      runs = c.runs_go_on.ensures.runs old new made run c.keep.ensures c.number.ensures.legal c.self.invariant.first c.self.invariant.runs;
+      runs = c.runs_go_on.ensures.runs old new made run c.keep.ensures c.keep_seat.ensures c.self.invariant.first c.self.invariant.runs;
     }

@@ -2,7 +2,7 @@ use Rattle.std.proofs.Common.{List, ap, sym, ◌∙◌}
 use Rattle.pair_history.specs.Entries.{Entry}
 use Rattle.pair_history.specs.HistoryState.{HistoryState, at}
 use Rattle.growing_history.specs.laws.Logs.{history-stands}
-use Rattle.pair_book.proofs.book.Book.entries.Goals as goal
+use Rattle.pair_book.proofs.book.Book.keep.Goals as goal
 
 pub returns-clause-inboxes : goal.returns-clause-inboxes
 returns-clause-inboxes g c =
