@@ -2,6 +2,7 @@ pub mod internal
 pub mod laws
 pub mod Invariant
 pub mod Kept
+pub mod Done
 pub mod Leaves
 pub mod Lines
 pub mod Nodes

@@ -50,9 +50,9 @@ impl World {
     ghost use Rattle.pair_history.specs.Entries.{Begins};
     ghost use Rattle.pair_history.specs.HistoryState.{start_state};
     ghost use Rattle.pair_record.specs.Modes.{mode_refusal};
-    ghost use Rattle.pair_record.specs.Protocol.{allowed, outcome, step_outcome};
+    ghost use Rattle.pair_record.specs.Protocol.{outcome, step_outcome};
     ghost use Rattle.pair_core.specs.Answering.{AnswersEvent, MayWantMemory, step_reply};
-    ghost use Rattle.pair_core.specs.Leaves.{Leaves};
+    ghost use Rattle.pair_core.specs.Done.{Does, DoesAllowed};
     ghost use Rattle.pair_core.specs.Pair.{Pair, OnRefused, IsConsistent};
     ghost use Rattle.pair_core.specs.Lines.{Protocol, start_protocol, got};
     ghost use Rattle.pair_core.specs.Along.{Along};
@@ -136,12 +136,8 @@ impl World {
 
     /// Does one event, or finds no memory for it.
     fn act(&mut self, event: Event<'_>) -> Result<Reply, MemoryWanted>
-        ensures outcome { IfOk result (λ reply. (reply, self.new.protocol.state)
-            ≡ outcome self.old.start self.old.protocol.state (got self.old.protocol.lines event.entry) event.entry) }
-        ensures leaves { IfOk result (λ reply. Leaves event.entry reply self.old self.new) }
-        ensures memory { OnErr result (MayWantMemory self.old.protocol.state
-            (outcome self.old.start self.old.protocol.state (got self.old.protocol.lines event.entry) event.entry)) }
-        ensures err { OnErr result (self.new ≡ self.old) }
+        ensures { Does (outcome self.old.start self.old.protocol.state (got self.old.protocol.lines event.entry) event.entry) event.entry result
+            self.old self.new }
     {
         if let Some(why) = mode_refusal(self.record.mode(), event) {
             return Ok(Reply::Refused(why));
@@ -153,12 +149,7 @@ impl World {
     #[inline(always)]
     fn act_allowed(&mut self, event: Event<'_>) -> Result<Reply, MemoryWanted>
         requires { mode_refusal self.old.protocol.state.mode event ≡ None }
-        ensures outcome { IfOk result (λ reply. (reply, self.new.protocol.state)
-            ≡ allowed self.old.start self.old.protocol.state (got self.old.protocol.lines event.entry) event.entry) }
-        ensures leaves { IfOk result (λ reply. Leaves event.entry reply self.old self.new) }
-        ensures memory { OnErr result (MayWantMemory self.old.protocol.state
-            (allowed self.old.start self.old.protocol.state (got self.old.protocol.lines event.entry) event.entry)) }
-        ensures err { OnErr result (self.new ≡ self.old) }
+        ensures { DoesAllowed (got self.old.protocol.lines event.entry) event.entry result self.old self.new }
     {
         match event {
             Event::Step => self.stepped(),
@@ -298,20 +289,14 @@ impl World {
     ghost use Rattle.pair_record.specs.Journal.{all_entries};
     ghost use Rattle.pair_record.specs.Modes.{is_stopped as stopped, is_alone as alone, mode_refusal};
     ghost use Rattle.pair_record.specs.Protocol.{refused, allowed, step_outcome};
-    ghost use Rattle.pair_core.specs.Answering.{MayWantMemory};
-    ghost use Rattle.pair_core.specs.Leaves.{Leaves};
+    ghost use Rattle.pair_core.specs.Done.{DoesAllowed};
     ghost use Rattle.pair_core.specs.Pair.{Pair};
     ghost use Rattle.pair_core.specs.Runs.{steps_outcome, with_steps};
 
     /// The running epoch ends: its checkpoint is sealed as a text, and its frames go to the gate.
     fn cut(&mut self) -> Result<Reply, MemoryWanted>
         requires { mode_refusal self.old.protocol.state.mode events.Cut ≡ None }
-        ensures outcome { IfOk result (λ reply. (reply, self.new.protocol.state)
-            ≡ allowed self.old.start self.old.protocol.state None events.Cut) }
-        ensures leaves { IfOk result (λ reply. Leaves events.Cut reply self.old self.new) }
-        ensures memory { OnErr result (MayWantMemory self.old.protocol.state
-            (allowed self.old.start self.old.protocol.state None events.Cut)) }
-        ensures err { OnErr result (self.new ≡ self.old) }
+        ensures { DoesAllowed None events.Cut result self.old self.new }
     {
         self.record.keep();
         if let Some(why) = self.record.cut_refusal() {
@@ -328,12 +313,7 @@ impl World {
     /// One packet for each pending checkpoint is sent.
     fn send(&mut self) -> Result<Reply, MemoryWanted>
         requires { mode_refusal self.old.protocol.state.mode events.Send ≡ None }
-        ensures outcome { IfOk result (λ reply. (reply, self.new.protocol.state)
-            ≡ allowed self.old.start self.old.protocol.state None events.Send) }
-        ensures leaves { IfOk result (λ reply. Leaves events.Send reply self.old self.new) }
-        ensures memory { OnErr result (MayWantMemory self.old.protocol.state
-            (allowed self.old.start self.old.protocol.state None events.Send)) }
-        ensures err { OnErr result (self.new ≡ self.old) }
+        ensures { DoesAllowed None events.Send result self.old self.new }
     {
         self.record.keep();
         self.lines.send(
@@ -347,12 +327,7 @@ impl World {
     /// The backup gets a packet.
     fn backup_get(&mut self, k: u64) -> Result<Reply, MemoryWanted>
         requires { mode_refusal self.old.protocol.state.mode (events.BackupGet k) ≡ None }
-        ensures outcome { IfOk result (λ reply. (reply, self.new.protocol.state)
-            ≡ allowed self.old.start self.old.protocol.state (slice_get self.old.protocol.lines.forward k) (events.BackupGet k)) }
-        ensures leaves { IfOk result (λ reply. Leaves (events.BackupGet k) reply self.old self.new) }
-        ensures memory { OnErr result (MayWantMemory self.old.protocol.state
-            (allowed self.old.start self.old.protocol.state (slice_get self.old.protocol.lines.forward k) (events.BackupGet k))) }
-        ensures err { OnErr result (self.new ≡ self.old) }
+        ensures { DoesAllowed (slice_get self.old.protocol.lines.forward k) (events.BackupGet k) result self.old self.new }
     {
         let Some(packet) = self.lines.packet(k) else {
             return Ok(Reply::Lost);
@@ -385,12 +360,7 @@ impl World {
     /// The primary gets an acknowledgement.
     fn ack_get(&mut self, k: u64) -> Result<Reply, MemoryWanted>
         requires { mode_refusal self.old.protocol.state.mode (events.AckGet k) ≡ None }
-        ensures outcome { IfOk result (λ reply. (reply, self.new.protocol.state)
-            ≡ allowed self.old.start self.old.protocol.state (slice_get self.old.protocol.lines.back k) (events.AckGet k)) }
-        ensures leaves { IfOk result (λ reply. Leaves (events.AckGet k) reply self.old self.new) }
-        ensures memory { OnErr result (MayWantMemory self.old.protocol.state
-            (allowed self.old.start self.old.protocol.state (slice_get self.old.protocol.lines.back k) (events.AckGet k))) }
-        ensures err { OnErr result (self.new ≡ self.old) }
+        ensures { DoesAllowed (slice_get self.old.protocol.lines.back k) (events.AckGet k) result self.old self.new }
     {
         let Some(packet) = self.lines.acknowledgement(k) else {
             return Ok(Reply::Lost);

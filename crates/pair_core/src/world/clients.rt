@@ -1,10 +1,8 @@
 //! What clients and their lines do, at the world.
-ghost use Rattle.std.specs.Prelude.{◌≡◌, IfOk, OnErr, None};
+ghost use Rattle.std.specs.Prelude.{◌≡◌, None};
 ghost use Rattle.pair_record.specs.declared.event.Event.TheVariants as events;
-ghost use Rattle.pair_record.specs.Protocol.{allowed};
 ghost use Rattle.pair_record.specs.Record.{given};
-ghost use Rattle.pair_core.specs.Answering.{MayWantMemory};
-ghost use Rattle.pair_core.specs.Leaves.{Leaves};
+ghost use Rattle.pair_core.specs.Done.{DoesAllowed};
 
 use super::{WORD_FULL, World, by_table};
 use memory_wanted::MemoryWanted;
@@ -13,12 +11,7 @@ use pair_record::{Frame, Reply};
 impl World {
     /// The first frame of a client's inbox arrives at the guest.
     pub(super) fn admit(&mut self, client: u64) -> Result<Reply, MemoryWanted>
-        ensures outcome { IfOk result (λ reply. (reply, self.new.protocol.state)
-            ≡ allowed self.old.start self.old.protocol.state None (events.Admit client)) }
-        ensures leaves { IfOk result (λ reply. Leaves (events.Admit client) reply self.old self.new) }
-        ensures memory { OnErr result (MayWantMemory self.old.protocol.state
-            (allowed self.old.start self.old.protocol.state None (events.Admit client))) }
-        ensures err { OnErr result (self.new ≡ self.old) }
+        ensures { DoesAllowed None (events.Admit client) result self.old self.new }
     {
         if let Some(why) = self.record.arrival_refusal(client) {
             return Ok(Reply::Refused(why));
@@ -37,12 +30,7 @@ impl World {
 
     /// A client delivers a frame of these bytes.
     pub(super) fn deliver(&mut self, client: u64, bytes: &[u8]) -> Result<Reply, MemoryWanted>
-        ensures outcome { IfOk result (λ reply. (reply, self.new.protocol.state)
-            ≡ allowed self.old.start self.old.protocol.state None (events.Deliver client bytes.entry)) }
-        ensures leaves { IfOk result (λ reply. Leaves (events.Deliver client bytes.entry) reply self.old self.new) }
-        ensures memory { OnErr result (MayWantMemory self.old.protocol.state
-            (allowed self.old.start self.old.protocol.state None (events.Deliver client bytes.entry))) }
-        ensures err { OnErr result (self.new ≡ self.old) }
+        ensures { DoesAllowed None (events.Deliver client bytes.entry) result self.old self.new }
     {
         let why = match self.record.deliver(client, bytes, WORD_FULL) {
             Ok(number) => return Ok(Reply::Delivered(number)),
@@ -53,12 +41,7 @@ impl World {
 
     /// A client takes the first frame of its box.
     pub(super) fn take(&mut self, client: u64) -> Result<Reply, MemoryWanted>
-        ensures outcome { IfOk result (λ reply. (reply, self.new.protocol.state)
-            ≡ allowed self.old.start self.old.protocol.state None (events.Take client)) }
-        ensures leaves { IfOk result (λ reply. Leaves (events.Take client) reply self.old self.new) }
-        ensures memory { OnErr result (MayWantMemory self.old.protocol.state
-            (allowed self.old.start self.old.protocol.state None (events.Take client))) }
-        ensures err { OnErr result (self.new ≡ self.old) }
+        ensures { DoesAllowed None (events.Take client) result self.old self.new }
     {
         let mut frame = Frame::new();
         let why = match self.record.take(client, &mut frame, WORD_FULL) {

@@ -1,9 +1,9 @@
 //! What happens when a node fails, at the world.
-ghost use Rattle.std.specs.Prelude.{◌≡◌, IfOk, OnErr, None};
+ghost use Rattle.std.specs.Prelude.{◌≡◌, None};
 ghost use Rattle.pair_record.specs.declared.event.Event.TheVariants as events;
 ghost use Rattle.pair_record.specs.Modes.{mode_refusal};
 ghost use Rattle.pair_record.specs.Protocol.{allowed};
-ghost use Rattle.pair_core.specs.Answering.{MayWantMemory};
+ghost use Rattle.pair_core.specs.Done.{DoesAllowed};
 ghost use Rattle.pair_core.specs.Leaves.{Leaves};
 
 use super::{World, by_table};
@@ -23,12 +23,7 @@ impl World {
     /// The backup stops, and the primary goes on alone.
     pub(super) fn fail_backup(&mut self) -> Result<Reply, MemoryWanted>
         requires { mode_refusal self.old.protocol.state.mode events.FailBackup ≡ None }
-        ensures outcome { IfOk result (λ reply. (reply, self.new.protocol.state)
-            ≡ allowed self.old.start self.old.protocol.state None events.FailBackup) }
-        ensures leaves { IfOk result (λ reply. Leaves events.FailBackup reply self.old self.new) }
-        ensures memory { OnErr result (MayWantMemory self.old.protocol.state
-            (allowed self.old.start self.old.protocol.state None events.FailBackup)) }
-        ensures err { OnErr result (self.new ≡ self.old) }
+        ensures { DoesAllowed None events.FailBackup result self.old self.new }
     {
         self.record.keep();
         let why = match self.record.fail_backup(self.nodes.outbox()) {
@@ -44,12 +39,7 @@ impl World {
     /// The backup goes live in the place of the stopped primary.
     pub(super) fn go_live(&mut self) -> Result<Reply, MemoryWanted>
         requires { mode_refusal self.old.protocol.state.mode events.GoLive ≡ None }
-        ensures outcome { IfOk result (λ reply. (reply, self.new.protocol.state)
-            ≡ allowed self.old.start self.old.protocol.state None events.GoLive) }
-        ensures leaves { IfOk result (λ reply. Leaves events.GoLive reply self.old self.new) }
-        ensures memory { OnErr result (MayWantMemory self.old.protocol.state
-            (allowed self.old.start self.old.protocol.state None events.GoLive)) }
-        ensures err { OnErr result (self.new ≡ self.old) }
+        ensures { DoesAllowed None events.GoLive result self.old self.new }
     {
         self.record.keep();
         let kept = self.nodes.kept();
@@ -67,12 +57,7 @@ impl World {
     /// The node that is alone gets a new backup.
     pub(super) fn protect(&mut self) -> Result<Reply, MemoryWanted>
         requires { mode_refusal self.old.protocol.state.mode events.Protect ≡ None }
-        ensures outcome { IfOk result (λ reply. (reply, self.new.protocol.state)
-            ≡ allowed self.old.start self.old.protocol.state None events.Protect) }
-        ensures leaves { IfOk result (λ reply. Leaves events.Protect reply self.old self.new) }
-        ensures memory { OnErr result (MayWantMemory self.old.protocol.state
-            (allowed self.old.start self.old.protocol.state None events.Protect)) }
-        ensures err { OnErr result (self.new ≡ self.old) }
+        ensures { DoesAllowed None events.Protect result self.old self.new }
     {
         self.record.keep();
         if let Some(why) = self.record.protect_refusal() {

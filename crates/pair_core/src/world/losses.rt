@@ -1,9 +1,8 @@
 //! The losses that are asked for, at the world.
-ghost use Rattle.std.specs.Prelude.{◌≡◌, IfOk, OnErr, None};
+ghost use Rattle.std.specs.Prelude.{◌≡◌, None};
 ghost use Rattle.pair_record.specs.declared.event.Event.TheVariants as events;
-ghost use Rattle.pair_record.specs.Protocol.{allowed, loss_reply};
-ghost use Rattle.pair_core.specs.Answering.{MayWantMemory};
-ghost use Rattle.pair_core.specs.Leaves.{Leaves};
+ghost use Rattle.pair_record.specs.Protocol.{loss_reply};
+ghost use Rattle.pair_core.specs.Done.{DoesAllowed};
 
 use super::{WORD_FULL, World, by_table};
 use memory_wanted::MemoryWanted;
@@ -12,12 +11,7 @@ use pair_record::Reply;
 impl World {
     /// The line drops a frame of a client's inbox.
     pub(super) fn lose_in(&mut self, client: u64, place: u64) -> Result<Reply, MemoryWanted>
-        ensures outcome { IfOk result (λ reply. (reply, self.new.protocol.state)
-            ≡ allowed self.old.start self.old.protocol.state None (events.LoseIn client place)) }
-        ensures leaves { IfOk result (λ reply. Leaves (events.LoseIn client place) reply self.old self.new) }
-        ensures memory { OnErr result (MayWantMemory self.old.protocol.state
-            (allowed self.old.start self.old.protocol.state None (events.LoseIn client place))) }
-        ensures err { OnErr result (self.new ≡ self.old) }
+        ensures { DoesAllowed None (events.LoseIn client place) result self.old self.new }
     {
         let why = match self.record.lose_in(client, place, WORD_FULL) {
             Ok(is_there) => return Ok(lost(is_there)),
@@ -28,12 +22,7 @@ impl World {
 
     /// The line drops a frame of a client's box.
     pub(super) fn lose_out(&mut self, client: u64, place: u64) -> Result<Reply, MemoryWanted>
-        ensures outcome { IfOk result (λ reply. (reply, self.new.protocol.state)
-            ≡ allowed self.old.start self.old.protocol.state None (events.LoseOut client place)) }
-        ensures leaves { IfOk result (λ reply. Leaves (events.LoseOut client place) reply self.old self.new) }
-        ensures memory { OnErr result (MayWantMemory self.old.protocol.state
-            (allowed self.old.start self.old.protocol.state None (events.LoseOut client place))) }
-        ensures err { OnErr result (self.new ≡ self.old) }
+        ensures { DoesAllowed None (events.LoseOut client place) result self.old self.new }
     {
         let why = match self.record.lose_out(client, place, WORD_FULL) {
             Ok(is_there) => return Ok(lost(is_there)),

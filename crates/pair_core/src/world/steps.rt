@@ -6,7 +6,7 @@ ghost use Rattle.pair_record.specs.Journal.{all_entries};
 ghost use Rattle.pair_record.specs.Modes as modes;
 ghost use Rattle.pair_record.specs.Protocol.{allowed, frames_run_out, refused, step_outcome, step_room};
 ghost use Rattle.pair_core.specs.Answering.{AnswersEvent, MayWantMemory, step_reply};
-ghost use Rattle.pair_core.specs.Leaves.{Leaves};
+ghost use Rattle.pair_core.specs.Done.{Does};
 ghost use Rattle.pair_core.specs.Pair.{Pair, IsConsistent};
 ghost use Rattle.pair_core.specs.Drops.{Drops};
 ghost use Rattle.pair_core.specs.Replication.{KeepsBackup};
@@ -76,10 +76,7 @@ impl World {
 
     /// One step, as a reply.
     pub(super) fn stepped(&mut self) -> Result<Reply, MemoryWanted>
-        ensures outcome { IfOk result (λ reply. (reply, self.new.protocol.state) ≡ step_outcome self.old.start self.old.protocol.state) }
-        ensures leaves { IfOk result (λ reply. Leaves events.Step reply self.old self.new) }
-        ensures memory { OnErr result (MayWantMemory self.old.protocol.state (step_outcome self.old.start self.old.protocol.state)) }
-        ensures err { OnErr result (self.new ≡ self.old) }
+        ensures { Does (step_outcome self.old.start self.old.protocol.state) events.Step result self.old self.new }
     {
         let why = match self.step() {
             Ok(count) => return Ok(Reply::Steps(count)),

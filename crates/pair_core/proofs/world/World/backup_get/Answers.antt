@@ -122,9 +122,9 @@ invariant_of-self-2 c =
     })
     (commit_holds w c.self.invariant c.backup_refusal.ensures.record c.keep.ensures.numbers (two c.args.k c.self.view_is c.requires) more)
 
-pub returns-clause-leaves : goal.returns-clause-leaves
-returns-clause-leaves c =
-    let w = pair_of c.self.inside in
+pub returns : goal.returns
+returns c =
+    (search rules, (let w = pair_of c.self.inside in
     let reply = ap (λ (o : Outcome). o.0) c.in-Ok.ensures.ok in
     let h = c.self.invariant in
     let k = c.backup_refusal.ensures.record in
@@ -136,11 +136,11 @@ returns-clause-leaves c =
     let then = in_mode (after_commit w) (commit_holds w h k c.keep.ensures.numbers alone more) (commit_record w.protocol.state k more) in
     record {
       start = search rules;
-      lines = rw (← c.self.view_is) (lines_are (goal.at.returns-clause-leaves c).After-commit-2 ∙ ap (lines_after w.protocol) (sym reply));
+      lines = rw (← c.self.view_is) (lines_are (goal.at.returns c).After-commit-2 ∙ ap (lines_after w.protocol) (sym reply));
       replicates = rw (← c.self.view_is) (subst (λ (o : Reply × Nodes). Replicates (BackupGet c.args.k) o.0 w.nodes o.1) (λ i. (
         sym reply i,
         sym
             c.commit-2.ensures i,
       )) (commit_replicates w k alone now then more));
       refused = search rules;
-    }
+    }), search rules, search rules)

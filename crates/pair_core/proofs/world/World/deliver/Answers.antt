@@ -24,18 +24,18 @@ invariant_of-self c =
     (after_delivery w.ports client bytes) (ap (λ (o : Outcome). o.1) c.in-Ok.ensures.done) c.in-Ok.ensures.ports
     (deliver_holds w c.self.invariant client rows.0 rows.1 bytes rows.2)
 
-pub returns-in-Ok-clause-outcome : goal.returns-in-Ok-clause-outcome
-returns-in-Ok-clause-outcome c =
-    let w = pair_of c.self.inside in
+pub returns-in-Ok : goal.returns-in-Ok
+returns-in-Ok c =
+    ((let w = pair_of c.self.inside in
     let Out : Pair → Outcome = λ v. allowed v.start v.protocol.state None (Deliver c.args.client c.args.bytes) in
     let done = deliver_done w.protocol.state c.args.client (record { items = c.args.bytes.now }) w.ports.next in
     c.in-Ok.ensures.done
-    ∙ subst (λ (v : Pair). done ≡ Out v) c.self.view_is (delivery_is_done w c.self.invariant c.args.client c.args.bytes.now c.in-Ok.ensures.free)
+    ∙ subst (λ (v : Pair). done ≡ Out v) c.self.view_is (delivery_is_done w c.self.invariant c.args.client c.args.bytes.now c.in-Ok.ensures.free)), search rules, search rules, search rules)
 
-pub returns-in_err-why-in-Err-clause-memory : goal.returns-in_err-why-in-Err-clause-memory
-returns-in_err-why-in-Err-clause-memory c =
-    rw (← c.self.view_is) (on_err _ _ (delivery_may_want (pair_of c.self.inside) c.self.invariant c.args.client c.args.bytes.now
-    (rw c.in_err-why-in-Err.ensures.memory at c.in-Err.ensures.why)))
+pub returns-in_err-why-in-Err : goal.returns-in_err-why-in-Err
+returns-in_err-why-in-Err c =
+    (search rules, search rules, (rw (← c.self.view_is) (on_err _ _ (delivery_may_want (pair_of c.self.inside) c.self.invariant c.args.client c.args.bytes.now
+    (rw c.in_err-why-in-Err.ensures.memory at c.in-Err.ensures.why)))), search rules)
 
 pub invariant_of-self-2 : goal.invariant_of-self-2
 invariant_of-self-2 c =
@@ -47,9 +47,9 @@ invariant_of-self-2 c =
     c.deliver.new.self.ports c.in-Err.ensures.same why (named_delivery rows why c.in_ok-why-in-Err.ensures.other c.in-Err.ensures.why)
     c.in-Err.ensures.refused
 
-pub returns-clause-outcome : goal.returns-clause-outcome
-returns-clause-outcome c =
-    let w = pair_of c.self.inside in
+pub returns : goal.returns
+returns c =
+    ((let w = pair_of c.self.inside in
     let why = c.in-Err.why in
     let Out : Pair → Outcome = λ v. allowed v.start v.protocol.state None (Deliver c.args.client c.args.bytes) in
     let rows = (deliver_refusals false (length w.ports.boxes) (list_of w.ports.inboxes c.args.client) w.ports.next w.protocol.state
@@ -57,11 +57,8 @@ returns-clause-outcome c =
     let done = delivery_refused w.protocol.state c.args.client (record { items = c.args.bytes.now }) why in
     (λ i. (replies.Refused (c.in_ok-why-in-Err.ensures.same i), c.deliver.new.self.protocol)) ∙ c.in-Err.ensures.refused
     ∙ subst (λ (v : Pair). done ≡ Out v) c.self.view_is (delivery_is_refused w c.self.invariant c.args.client c.args.bytes.now why
-    (named_delivery rows why c.in_ok-why-in-Err.ensures.other c.in-Err.ensures.why))
-
-pub returns-clause-leaves : goal.returns-clause-leaves
-returns-clause-leaves c =
-    let w = pair_of c.self.inside in
+    (named_delivery rows why c.in_ok-why-in-Err.ensures.other c.in-Err.ensures.why))),
+    (let w = pair_of c.self.inside in
     let now = c.deliver.new.self in
     let new = record w { protocol = record w.protocol { state = now.protocol }; ports = now.ports } in
     record {
@@ -71,4 +68,4 @@ returns-clause-leaves c =
       refused = rw c.in_ok-why-in-Err.ensures.same (subst (λ (v : Pair). AfterRefusal c.in-Err.why v new) c.self.view_is
           (after_refusal w c.self.invariant c.args.client c.args.bytes.now now.protocol now.ports c.in-Err.ensures.same c.in-Err.why
           c.in-Err.ensures.refused));
-    }
+    }), search rules, search rules)

@@ -37,15 +37,15 @@ go_live-requires-clause-frames c =
     (subst (λ (l : List (List Frame)). All (λ fs. All IsFrame fs) l) (sym c.epochs-frames.ensures.value)
     c.epochs-frames.ensures.rules.frames)
 
-pub returns-in-Some-clause-outcome : goal.returns-in-Some-clause-outcome
-returns-in-Some-clause-outcome c =
-    let row = table (goal.at.returns-in-Some-clause-outcome c).After-go_live_refusal in
-    search (arith, rules, row)
+pub returns-in-Some : goal.returns-in-Some
+returns-in-Some c =
+    ((let row = table (goal.at.returns-in-Some c).After-go_live_refusal in
+    search (arith, rules, row)), search rules, search rules, search rules)
 
-pub returns-in_err-reply-clause-memory : goal.returns-in_err-reply-clause-memory
-returns-in_err-reply-clause-memory c =
-    let row = table (goal.at.returns-in_err-reply-clause-memory c).After-go_live_refusal in
-    search (arith, rules, row)
+pub returns-in_err-reply : goal.returns-in_err-reply
+returns-in_err-reply c =
+    (search rules, search rules, (let row = table (goal.at.returns-in_err-reply c).After-go_live_refusal in
+    search (arith, rules, row)), search rules)
 
 pub invariant_of-self-2 : goal.invariant_of-self-2
 invariant_of-self-2 c =
@@ -61,9 +61,9 @@ invariant_of-self-2 c =
     subst Holds (λ i. record w { protocol = record w.protocol { state = sym protocol i }; ports = sym ports i; nodes = sym c.go_live-2.ensures i })
     (gone_live_holds w c.self.invariant two some c.image_steps-steps.result last)
 
-pub returns-clause-outcome : goal.returns-clause-outcome
-returns-clause-outcome c =
-    let at = (goal.at.returns-clause-outcome c).After-go_live_refusal in
+pub returns : goal.returns
+returns c =
+    ((let at = (goal.at.returns c).After-go_live_refusal in
     let row = table at in
     let done = c.in_ok-reply.ensures.owed (brings_here at) in
-    search (arith, rules, row, done)
+    search (arith, rules, row, done)), search rules, search rules, search rules)

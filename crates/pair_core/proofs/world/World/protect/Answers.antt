@@ -35,9 +35,9 @@ invariant_of-self-2 c =
     subst Holds (λ i. record w { protocol = record w.protocol { state = sym protocol i }; ports = sym c.in-Ok.ensures.ports i; nodes = sym nodes i })
     (protect_holds w c.self.invariant lone last text (makes (goal.at.invariant_of-self-2 c).In_ok-image))
 
-pub returns-clause-leaves : goal.returns-clause-leaves
-returns-clause-leaves c =
-    let w = pair_of c.self.inside in
+pub returns : goal.returns
+returns c =
+    (search rules, (let w = pair_of c.self.inside in
     let text = c.in_ok-image.text.items in
     let reply = ap (λ (o : Outcome). o.0) c.in-Ok.ensures.ok in
     let nodes = c.protect-2.ensures ∙ ap (λ (x : Nodes). with_protected x text) c.full_checkpoint.ensures.nodes in
@@ -48,4 +48,4 @@ returns-clause-leaves c =
           (protect_replicates w.nodes (c.generation-generation.result + 1) text (λ (before : Guest). c.in_ok-image.ensures.text before
           c.self.invariant.nodes.shape)));
       refused = search rules;
-    }
+    }), search rules, search rules)

@@ -25,13 +25,13 @@ invariant_of-self-2 c =
     subst Holds (λ i. record w { protocol = record w.protocol { lines = sym lines i } })
     (lines_hold w c.self.invariant _ (named-sent w.protocol.state w.protocol.lines c.self.invariant.lines c.keep.ensures.record.window))
 
-pub returns-clause-leaves : goal.returns-clause-leaves
-returns-clause-leaves c =
-    let w = pair_of c.self.inside in
+pub returns : goal.returns
+returns c =
+    (search rules, (let w = pair_of c.self.inside in
     let reply = ap (λ (o : Outcome). o.0) c.send-2.ensures in
     record {
       start = search rules;
-      lines = rw (← c.self.view_is) (lines_are (goal.at.returns-clause-leaves c).After-send-2 ∙ ap (lines_after w.protocol) (sym reply));
+      lines = rw (← c.self.view_is) (lines_are (goal.at.returns c).After-send-2 ∙ ap (lines_after w.protocol) (sym reply));
       replicates = search rules;
       refused = search rules;
-    }
+    }), search rules, search rules)
