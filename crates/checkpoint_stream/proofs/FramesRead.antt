@@ -39,7 +39,8 @@ frames-lead r [] all = rw (frame_units-nil, append-nil r.frames) (Leads-none _)
 frames-lead r (f ∷ fs) all =
     let within : IsFrame f = All-head IsFrame f fs all in
     let next : Reading = record r { frames = r.frames ++ f ∷ [] } in
-    let every : Leads (record r { place = FrameLength (length fs) }) ((bytes_of Four (length f.items) ∷ []) ++ ((f.items ∷ []) ++ frame_units fs))
+    let every : Leads (record r { place = FrameLength (length fs) })
+    ((bytes_of Four (length f.items) ∷ []) ++ ((f.items ∷ []) ++ frame_units fs))
     (record next { place = Whole; frames = next.frames ++ fs })
     = Leads-append _ _ _ _ _ (Leads-number (record r { place = FrameLength (length fs) }) (length f.items)
     (λ m. nat_le 14 m && nat_le m 1514) (λ m. FrameBytes (length fs) m) refl refl (λ o. refl)

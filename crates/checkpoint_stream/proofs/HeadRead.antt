@@ -5,7 +5,8 @@ use Rattle.guest_machine.specs.declared.shapes.Shape.{Shape}
 use Rattle.checkpoint_stream.specs.declared.{rules.{Row.Row, Width.TheVariants.Four, Rule.TheVariants.Magic}, place.Place.Place}
 use Rattle.checkpoint_stream.specs.{declared.place.Place.TheVariants.{Head, PageCount}, HeadTable.{head_table, row_at, passes, bytes_of}}
 use Rattle.checkpoint_stream.specs.{HeadTable.{bytes_in, number}, Readings.{judged, kept_number, after_number}, Sound.{AllPass, last_after}}
-use Rattle.checkpoint_stream.{specs.Text.number_units, proofs.Numbers.{length-head_table, limit_of, AllFit, number-back, length-bytes_of, some-bytes}}
+use Rattle.checkpoint_stream.{specs.Text.number_units}
+use Rattle.checkpoint_stream.{proofs.Numbers.{length-head_table, limit_of, AllFit, number-back, length-bytes_of, some-bytes}}
 use Rattle.checkpoint_stream.proofs.Leading.{at, standing, Leads, Leads-append, Leads-unit}
 
 number-judged : (shape : Shape) (k : ℕ) (head : List ℕ) (before n m : ℕ) (place : Place) (o : ℕ) → m ≡ n →

@@ -1,14 +1,16 @@
 -- A reading holds no more records and frames than its shape allows.
 use Rattle.std.proofs.Common.{◌≡◌, ℕ, ◌*◌, ◌<◌, ◌≤◌, List, [], ◌∷◌, ◌++◌, length, arith, map, All}
 use Rattle.std.proofs.Common.{count_ones, length-append, take, ap, sym, subst}
-use Rattle.std.proofs.lemmas.{List.{length-map, length-take}, List.Elements.{All-nil, All-head, All-tail}, List.Sums.{sum_by-cons}, Nat.ones-le}
+use Rattle.std.proofs.lemmas.{List.{length-map, length-take}, List.Elements.{All-nil, All-head, All-tail}, List.Sums.{sum_by-cons}}
+use Rattle.std.proofs.lemmas.{Nat.ones-le}
 use Rattle.epoch_snapshot.specs.declared.changes.{PageChange.PageChange, SectorChange.SectorChange}
 use Rattle.epoch_snapshot.specs.Checkpoints.{block_count}
 use Rattle.checkpoint_stream.specs.declared.{place.Place.Place}
 use Rattle.checkpoint_stream.specs.declared.place.Place.TheVariants.{Head, PageCount, PageIndex, PageMask, Block, SectorCount, SectorIndex}
 use Rattle.checkpoint_stream.specs.declared.place.Place.TheVariants.{SectorBytes, FrameCount, FrameLength, FrameBytes, Whole, Failed}
 use Rattle.checkpoint_stream.specs.{Readings.Reading}
-use Rattle.checkpoint_stream.specs.{Readings.width_at, Sound.{HoldsFew, HasNoRecords, HasRecords, HasFrames, StandsAt, FramesAt}, Taken.HasPlaces}
+use Rattle.checkpoint_stream.specs.{Readings.width_at, Sound.{HoldsFew, HasNoRecords, HasRecords, HasFrames, StandsAt, FramesAt}}
+use Rattle.checkpoint_stream.specs.{Taken.HasPlaces}
 use Rattle.checkpoint_stream.specs.{HeadTable.{row_at}}
 use Rattle.checkpoint_stream.proofs.{RecordsRead.{Rises-end, FitsMask}, Numbers.width-most}
 use Rattle.net_device.specs.Frames.{IsFrame}

@@ -1,8 +1,10 @@
 -- A number and its bytes give each other.
 use Rattle.std.proofs.Common.{◌≡◌, ℕ, ◌<◌, ◌≤◌, ◌^◌, ◌==◌, true, List, [], ◌∷◌, length, refl, arith, suc, zero, All, get_or, lit<}
-use Rattle.std.proofs.lemmas.{Bool.Decides.nat_tests, List.Elements.{All-head, All-tail}, Nat.{from_le_bytes-to_le_bytes_2, from_le_bytes-to_le_bytes_4}}
+use Rattle.std.proofs.lemmas.{Bool.Decides.nat_tests, List.Elements.{All-head, All-tail}}
+use Rattle.std.proofs.lemmas.{Nat.{from_le_bytes-to_le_bytes_2, from_le_bytes-to_le_bytes_4}}
 use Rattle.std.proofs.lemmas.Nat.{from_le_bytes-to_le_bytes_8, le_bytes_2, le_bytes_4, le_bytes_8}
-use Rattle.checkpoint_stream.specs.{declared.rules.{Width.{Width, TheVariants.{Two, Four, Eight}}, Row.Row}, HeadTable.{head_table, bytes_in, bytes_of}}
+use Rattle.checkpoint_stream.specs.{declared.rules.{Width.{Width, TheVariants.{Two, Four, Eight}}, Row.Row}}
+use Rattle.checkpoint_stream.specs.{HeadTable.{head_table, bytes_in, bytes_of}}
 use Rattle.checkpoint_stream.specs.HeadTable.{number_spelled}
 
 pub length-head_table : length head_table ≡ 80

@@ -7,9 +7,11 @@ use Rattle.checkpoint_stream.specs.declared.place.Place.{Place, TheVariants.Whol
 use Rattle.checkpoint_stream.specs.{HeadTable.head_table, Readings.{Reading, begun, is_closed, width_of, judged, fed_byte, fed, taken}}
 use Rattle.checkpoint_stream.specs.Sound.{IsSound, HasRecords, StandsAt, change_in}
 use Rattle.checkpoint_stream.specs.Text.{head_numbers, joined, number_units, page_units, sector_units, units_of_frames, units, text}
-use Rattle.checkpoint_stream.specs.{HeadTable.bytes_of, Taken.Extends, laws.{Feeding.{fed-closed, taken-byte, taken-closed}, Extending.{Extends-itself, fed-extends}}}
+use Rattle.checkpoint_stream.specs.{HeadTable.bytes_of, Taken.Extends}
+use Rattle.checkpoint_stream.specs.{laws.{Feeding.{fed-closed, taken-byte, taken-closed}, Extending.{Extends-itself, fed-extends}}}
 use Rattle.checkpoint_stream.specs.declared.rules.Width.TheVariants.{Four}
-use Rattle.checkpoint_stream.proofs.{Begun.judged-begun, Numbers.{IsByte, eq-true}, Soundness.{fed_byte-sound, fed-sound, begun-sound}, HeadBack.head-kept}
+use Rattle.checkpoint_stream.proofs.{Begun.judged-begun, Numbers.{IsByte, eq-true}, Soundness.{fed_byte-sound, fed-sound, begun-sound}}
+use Rattle.checkpoint_stream.proofs.{HeadBack.head-kept}
 use Rattle.checkpoint_stream.proofs.ToCome.{to_come, LeftAt, IsFirst, Left, left_of, ending, after_head, judged_at-first}
 
 -- bytes of the unit that has begun, and none where nothing more is taken

@@ -9,7 +9,8 @@ use Rattle.epoch_snapshot.specs.{declared.changes.{PageChange.PageChange, Sector
 use Rattle.epoch_snapshot.specs.Checkpoints.{block_count}
 use Rattle.checkpoint_stream.specs.declared.{rules.Width.TheVariants.{Four, Eight}, place.Place.{TheVariants.{PageIndex}}}
 use Rattle.checkpoint_stream.specs.declared.place.Place.TheVariants.{PageMask, Block, SectorCount}
-use Rattle.checkpoint_stream.specs.{HeadTable.bytes_of, Readings.{Reading, judged, kept_mask, kept_block, pages_due, after_block}, Text.page_units}
+use Rattle.checkpoint_stream.specs.{HeadTable.bytes_of, Readings.{Reading, judged, kept_mask, kept_block, pages_due, after_block}}
+use Rattle.checkpoint_stream.specs.{Text.page_units}
 use Rattle.checkpoint_stream.proofs.{Numbers.{number-back, length-bytes_of, some-bytes}, Leading.{at, Leads, Leads-append, Leads-unit}}
 use Rattle.checkpoint_stream.proofs.Leading.{Leads-none, Leads-number}
 

@@ -7,7 +7,8 @@ use Rattle.checkpoint_stream.specs.declared.{place.Place.{Place, TheVariants.{He
 use Rattle.checkpoint_stream.specs.declared.{rules.{Row.Row, Width.TheVariants.Eight}, runs.Between.{Between}}
 use Rattle.checkpoint_stream.specs.{HeadTable.{row_at, passes, number_spelled, bytes_in}, Readings.{Reading, is_closed, width_at}}
 use Rattle.checkpoint_stream.specs.Readings.{judged, judged_at, after_number, kept_number, number_judged, block_judged}
-use Rattle.checkpoint_stream.{specs.Taken.{Takes, Extends, numbered}, proofs.{Feeding.{Takes-append, Takes-unit}, HeadRead.going-on, Numbers.width-most}}
+use Rattle.checkpoint_stream.{specs.Taken.{Takes, Extends, numbered}}
+use Rattle.checkpoint_stream.{proofs.{Feeding.{Takes-append, Takes-unit}, HeadRead.going-on, Numbers.width-most}}
 
 pub judged-number : (r : Reading) (unit : List ℕ) → r.place ≡ Head →
     judged r unit ≡ number_judged r (row_at r.known) (number_spelled (row_at r.known).width unit)

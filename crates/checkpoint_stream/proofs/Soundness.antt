@@ -9,10 +9,12 @@ use Rattle.epoch_snapshot.specs.Checkpoints.{block_count}
 use Rattle.checkpoint_stream.specs.declared.{rules.{Row.Row, Width.TheVariants.Four, Rule.TheVariants.Magic}, place.Place.Place}
 use Rattle.checkpoint_stream.specs.declared.place.Place.TheVariants.{Head, PageCount, PageIndex, PageMask, Block, SectorCount, SectorIndex}
 use Rattle.checkpoint_stream.specs.declared.place.Place.TheVariants.{SectorBytes, FrameCount, FrameLength, FrameBytes, Whole, Failed}
-use Rattle.checkpoint_stream.specs.{HeadTable.{head_table, row_at, passes, number_spelled, number}, Readings.{Reading, is_full, failed, moved}}
+use Rattle.checkpoint_stream.specs.{HeadTable.{head_table, row_at, passes, number_spelled, number}}
+use Rattle.checkpoint_stream.specs.{Readings.{Reading, is_full, failed, moved}}
 use Rattle.checkpoint_stream.specs.Readings.{pages_due, sectors_due, after_block, after_number, moved_if, has_frames, most_frames}
 use Rattle.checkpoint_stream.specs.Readings.{frames_due, frame_judged, width_at, kept_number, kept_mask, kept_block, kept_sector, judged}
-use Rattle.checkpoint_stream.specs.{Readings.{judged_at, is_closed, fed_byte, fed, begun, width_of}, Sound.{IsSound, IsHead, HasNoRecords, HoldsFew}}
+use Rattle.checkpoint_stream.specs.{Readings.{judged_at, is_closed, fed_byte, fed, begun, width_of}}
+use Rattle.checkpoint_stream.specs.{Sound.{IsSound, IsHead, HasNoRecords, HoldsFew}}
 use Rattle.checkpoint_stream.specs.Sound.{HasRecords, StandsAt, HasFrames, FramesAt, AllPass, last_after}
 use Rattle.checkpoint_stream.proofs.{Holding.{keep-few, few-at}, Numbers.{eq-true, length-head_table}}
 use Rattle.net_device.specs.Frames.{IsFrame}
@@ -118,7 +120,8 @@ number-read true r n h few none no_frames k p = record {
       (record { pages = none.pages; blocks = none.blocks; sectors = none.sectors }) no_frames;
 }
 
-moved_if-read : (b : Bool) (r : Reading) (place : Place) → IsHead r → HoldsFew r → (b ≡ true → IsAt place (moved r 4 place)) → IsRead (moved_if b r place)
+moved_if-read : (b : Bool) (r : Reading) (place : Place) → IsHead r → HoldsFew r → (b ≡ true → IsAt place (moved r 4 place)) →
+    IsRead (moved_if b r place)
 unfolding moved_if
 moved_if-read false r place h few f = failed-read r h few
 moved_if-read true r place h few f = record { head = keep-head r _ _ _ _ _ _ _ h; at = f refl }
@@ -207,8 +210,8 @@ mask-records r left page mask top h is =
     }
 
 -- a mask
-mask-read : (b : Bool) (r : Reading) (left page mask : ℕ) → IsHead r → HoldsFew r → page < r.shape.pages → HasRecords r page 0 0 → r.frames ≡ [] →
-    (mask == 0) ≡ b → IsRead (kept_mask b r left page mask)
+mask-read : (b : Bool) (r : Reading) (left page mask : ℕ) → IsHead r → HoldsFew r → page < r.shape.pages → HasRecords r page 0 0 →
+    r.frames ≡ [] → (mask == 0) ≡ b → IsRead (kept_mask b r left page mask)
 unfolding kept_mask
 mask-read true r left page mask h few top records none is = failed-read r h few
 mask-read false r left page mask h few top records none is = record {
@@ -321,10 +324,11 @@ closed-read r p at h s f = record {
 judged_at-read : (p : Place) (r : Reading) (unit : List ℕ) → r.place ≡ p → IsHead r → HoldsFew r → StandsAt p r → FramesAt p r →
     length unit ≡ width_at p r.known → IsRead (judged_at p r unit)
 judged_at-read Head r unit at h few s f wide = number-read _ r _ h few s.1 f s.0 refl
-judged_at-read PageCount r unit at h few s f wide = moved_if-read _ r _ h few (λ (e : nat_le (number_spelled Four unit) r.shape.pages ≡ true).
+judged_at-read PageCount r unit at h few s f wide = moved_if-read _ r _ h few (λ e.
     at-pages_due _ _ 0 (keep-records r _ _ _ _ _ 0 0 (no-records r s.0 s.1)) f)
 judged_at-read (PageIndex left from) r unit at h few s f wide = moved_if-read _ r _ h few (λ e.
-    let tests : (nat_le from (number_spelled Four unit) ≡ true) × (nat_lt (number_spelled Four unit) r.shape.pages ≡ true) = both-true _ _ e in
+    let tests : (nat_le from (number_spelled Four unit) ≡ true) × (nat_lt (number_spelled Four unit) r.shape.pages ≡ true)
+    = both-true _ _ e in
     let below : number_spelled Four unit < r.shape.pages = lt-true _ _ tests.1 in
     record {
       stands = (
@@ -339,7 +343,8 @@ judged_at-read (Block left page more) r unit at h few s f wide = block-read _ r 
 judged_at-read SectorCount r unit at h few s f wide =
     moved_if-read _ r _ h few (λ e. at-sectors_due _ (has_frames r) _ 0 refl (keep-records r _ _ _ _ _ 0 0 s) f)
 judged_at-read (SectorIndex left from) r unit at h few s f wide = moved_if-read _ r _ h few (λ e.
-    let tests : (nat_le from (number_spelled Four unit) ≡ true) × (nat_lt (number_spelled Four unit) r.shape.sectors ≡ true) = both-true _ _ e in
+    let tests : (nat_le from (number_spelled Four unit) ≡ true) × (nat_lt (number_spelled Four unit) r.shape.sectors ≡ true)
+    = both-true _ _ e in
     let below : number_spelled Four unit < r.shape.sectors = lt-true _ _ tests.1 in
     record {
       stands = (
@@ -350,7 +355,7 @@ judged_at-read (SectorIndex left from) r unit at h few s f wide = moved_if-read 
       frames = f;
     })
 judged_at-read (SectorBytes left sector) r unit at h few s f wide = sector-read _ r left sector unit h few s.0 s.1 f refl
-judged_at-read FrameCount r unit at h few s f wide = moved_if-read _ r _ h few (λ (e : nat_le (number_spelled Four unit) (most_frames r) ≡ true).
+judged_at-read FrameCount r unit at h few s f wide = moved_if-read _ r _ h few (λ e.
     at-frames_due _ (number_spelled Four unit) (keep-records r _ _ _ _ _ _ _ s)
     (keep-frames r _ _ _ _ (frame_count-frames r (number_spelled Four unit) f.0 f.1 (le-true _ _ e))))
 judged_at-read (FrameLength left) r unit at h few s f wide = moved_if-read _ r _ h few (λ e.
@@ -366,7 +371,8 @@ judged_at-read (Failed x) r unit at h few s f wide = closed-read r (Failed x) at
 judged-sound : (r : Reading) (unit : List ℕ) → length unit ≡ width_of r → IsSound r → IsSound (judged r unit)
 unfolding judged
 judged-sound r unit wide h =
-    let read : IsRead (judged_at r.place r unit) = judged_at-read r.place r unit refl h.head (few-at r.place r h.place h.frames) h.place h.frames wide in
+    let few : HoldsFew r = few-at r.place r h.place h.frames in
+    let read : IsRead (judged_at r.place r unit) = judged_at-read r.place r unit refl h.head few h.place h.frames wide in
     record {
       head = read.head;
       place = read.at.stands;

@@ -1,5 +1,6 @@
 -- A checkpoint's text is read as this checkpoint.
-use Rattle.std.proofs.Common.{◌≡◌, ℕ, ◌<◌, ◌≤◌, List, [], ◌∷◌, length, refl, sym, ◌∙◌, ap, subst, arith, lit<, All, drop, Bool, true, ◌++◌, nat_le}
+use Rattle.std.proofs.Common.{◌≡◌, ℕ, ◌<◌, ◌≤◌, List, [], ◌∷◌, length, refl, sym, ◌∙◌, ap, subst, arith, lit<, All, drop, Bool, true}
+use Rattle.std.proofs.Common.{◌++◌, nat_le}
 use Rattle.std.proofs.{Common.{false, ◌==◌, if◌then◌else◌}, lemmas.List.{length-map, Elements.{All-take, All-drop}}}
 use Rattle.std.proofs.lemmas.Bool.Decides.{nat_tests}
 use Rattle.guest_machine.specs.declared.machine_state.MachineState.{MachineState}
@@ -13,7 +14,8 @@ use Rattle.checkpoint_stream.specs.{HeadTable.{head_table, bytes_of}, Readings.{
 use Rattle.checkpoint_stream.specs.{Sound.{change_in, last_after, version_from}, Taken.Takes, Text.{magic, head_numbers, numbers_from}}
 use Rattle.checkpoint_stream.specs.{Text.{frame_units, units, joined, text}, Units.judged_all}
 use Rattle.checkpoint_stream.specs.{Units.AreUnits, Widths.{HasWidths, StateFits}, ReadBack.ReadsBack}
-use Rattle.checkpoint_stream.proofs.{Feeding.{Takes-nothing, Takes-append, Takes-unit}, Leading.{at, standing, Leads, Leads-append, Leads-none}}
+use Rattle.checkpoint_stream.proofs.{Feeding.{Takes-nothing, Takes-append, Takes-unit}}
+use Rattle.checkpoint_stream.proofs.{Leading.{at, standing, Leads, Leads-append, Leads-none}}
 use Rattle.checkpoint_stream.proofs.{Leading.Leads-number, Numbers.eq-true}
 use Rattle.checkpoint_stream.proofs.{HeadRead.numbers-lead, HeadFits.{IsWord, head-passes, head-fits}, StateRead.{state-back, numbers-back}}
 use Rattle.checkpoint_stream.proofs.RecordsRead.{FitsMask, IsBlockWide, IsSectorWide, Rises-end, PagesLeft, pages-lead}
@@ -69,8 +71,9 @@ ending-lead : (c : Change) (r : Reading) (old : Bool) → IsCanonical c → (c.v
     (record r { place = Whole; frames = c.frames })
 ending-lead c r true h is ends full none = rw (ends, h.old_frames (eq-true c.version 1 is), ← none) (Leads-none _)
 ending-lead c r false h is ends full none =
-    rw ends (subst (λ (fs : List (ArrayVec ℕ)). Leads (record r { place = FrameCount }) (bytes_of Four (length c.frames) ∷ frame_units c.frames)
-    (record r { place = Whole; frames = fs ++ c.frames })) none (counted-lead r c.frames h.frame_count full h.frames))
+    rw ends (subst (λ (fs : List (ArrayVec ℕ)). Leads (record r { place = FrameCount })
+    (bytes_of Four (length c.frames) ∷ frame_units c.frames) (record r { place = Whole; frames = fs ++ c.frames })) none
+    (counted-lead r c.frames h.frame_count full h.frames))
 
 ends-at : (c : Change) (old : Bool) → (c.version == 1) ≡ old → after_sectors (headed c) ≡ (if old then Whole else FrameCount)
 unfolding head_numbers

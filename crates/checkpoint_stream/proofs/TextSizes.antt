@@ -8,7 +8,8 @@ use Rattle.epoch_snapshot.specs.Checkpoints.{Change, IsCanonical}
 use Rattle.epoch_snapshot.specs.declared.changes.PageChange.{PageChange}
 use Rattle.epoch_snapshot.specs.declared.changes.SectorChange.{SectorChange}
 use Rattle.checkpoint_stream.specs.HeadTable.{head_table, bytes_of}
-use Rattle.checkpoint_stream.specs.Text.{head_numbers, number_units, page_record, page_units, sector_units, frame_units, units_of_frames, joined, text}
+use Rattle.checkpoint_stream.specs.Text.{head_numbers, number_units, page_record, page_units, sector_units, frame_units, units_of_frames}
+use Rattle.checkpoint_stream.specs.Text.{joined, text}
 use Rattle.checkpoint_stream.specs.Widths.{HasWidths}
 use Rattle.checkpoint_stream.specs.declared.rules.Row.{Row}
 use Rattle.checkpoint_stream.specs.declared.rules.Width.TheVariants.{Four, Eight}

@@ -8,15 +8,17 @@ use Rattle.epoch_snapshot.specs.declared.changes.{PageChange.PageChange, SectorC
 use Rattle.checkpoint_stream.specs.declared.rules.{Row.Row, Width.TheVariants.{Four, Eight}, Rule.TheVariants.Magic}
 use Rattle.checkpoint_stream.specs.declared.place.Place.{Place, TheVariants.{Head, PageCount, PageIndex, PageMask, Block, SectorCount}}
 use Rattle.checkpoint_stream.specs.declared.place.Place.TheVariants.{SectorIndex, SectorBytes, FrameCount, FrameLength, FrameBytes, Whole}
-use Rattle.checkpoint_stream.specs.{declared.place.Place.TheVariants.Failed, HeadTable.{head_table, row_at, bytes_of, number_spelled, number}}
+use Rattle.checkpoint_stream.specs.{declared.place.Place.TheVariants.Failed}
+use Rattle.checkpoint_stream.specs.{HeadTable.{head_table, row_at, bytes_of, number_spelled, number}}
 use Rattle.checkpoint_stream.specs.Readings.{Reading, moved_if, kept_number, kept_mask, kept_block, kept_sector, frame_judged, judged_at}
-use Rattle.checkpoint_stream.specs.Readings.{pages_due, sectors_due, frames_due, after_number, after_sectors, is_closed, width_at, has_frames}
+use Rattle.checkpoint_stream.specs.Readings.{pages_due, sectors_due, frames_due, after_number, after_sectors, is_closed, width_at}
+use Rattle.checkpoint_stream.specs.Readings.{has_frames}
 use Rattle.checkpoint_stream.specs.{Sound.{IsHead, StandsAt}, Taken.Extends}
 use Rattle.checkpoint_stream.specs.Text.{number_units, page_units, sector_units, frame_units}
 use Rattle.checkpoint_stream.proofs.{Numbers.{IsByte, eq-true, length-head_table, limit_of, bytes-back, number-small}, HeadBack.Narrow}
 
--- of a whole reading what isn't read yet: the rows of the head's table that are left, the numbers, the records and the frames; and whether it
--- is of version 2
+-- of a whole reading what isn't read yet: the rows of the head's table that are left, the numbers, the records and the frames; and whether
+-- it is of version 2
 pub record Left : Type 0 where
   pub rows : List Row
   pub numbers : List ℕ
@@ -280,7 +282,8 @@ sector-kept-first false r f left sector unit new extends h =
     let l : Left = left_of (kept_sector false r left sector unit) f in
     let sectors : drop (length r.sectors) f.sectors ≡ s ∷ l.sectors
     = one-read r.sectors extends.sectors.0 f.sectors s extends.sectors.1 in
-    let a : AtSectors (sectors_due (after_sectors r) left (sector + 1)) l left = sectors_due-first l (has_frames r) left (sector + 1) new h in
+    let a : AtSectors (sectors_due (after_sectors r) left (sector + 1)) l left
+    = sectors_due-first l (has_frames r) left (sector + 1) new h in
     record {
       left = (a.pages, omega (arith, ap length sectors, a.count), subst (FirstSector sector) (sym sectors) refl);
       units = ap (λ (ss : List SectorChange). drop 1 (sector_units ss) ++ ending l.new l) sectors

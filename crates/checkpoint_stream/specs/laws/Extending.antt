@@ -21,9 +21,15 @@ Extends-itself r = record {
 pushed : {X : Type 0} (old more new : List X) (x : X) → new ≡ old ++ more → new ++ x ∷ [] ≡ old ++ (more ++ x ∷ [])
 pushed old more new x e = ap (λ l. l ++ x ∷ []) e ∙ append_assoc old more (x ∷ [])
 
+-- what changes neither the head nor a list
+keep-extends : (a r : Reading) (offset : ℕ) (place : Place) (partial : List ℕ) → Extends a r →
+    Extends a (record r { offset = offset; place = place; partial = partial })
+keep-extends a r offset place partial e =
+    record { shape = e.shape; head = e.head; pages = e.pages; blocks = e.blocks; sectors = e.sectors; frames = e.frames }
+
 kept_number-extends : (b : Bool) (a r : Reading) (row : Row) (n : ℕ) → Extends a r → Extends a (kept_number b r row n)
 unfolding kept_number
-kept_number-extends false a r row n e = record { shape = e.shape; head = e.head; pages = e.pages; blocks = e.blocks; sectors = e.sectors; frames = e.frames }
+kept_number-extends false a r row n e = keep-extends a r _ _ _ e
 kept_number-extends true a r row n e =
     record {
       shape = e.shape;
@@ -36,26 +42,40 @@ kept_number-extends true a r row n e =
 
 moved_if-extends : (b : Bool) (a r : Reading) (p : Place) → Extends a r → Extends a (moved_if b r p)
 unfolding moved_if
-moved_if-extends false a r p e = record { shape = e.shape; head = e.head; pages = e.pages; blocks = e.blocks; sectors = e.sectors; frames = e.frames }
-moved_if-extends true a r p e = record { shape = e.shape; head = e.head; pages = e.pages; blocks = e.blocks; sectors = e.sectors; frames = e.frames }
+moved_if-extends false a r p e = keep-extends a r _ _ _ e
+moved_if-extends true a r p e = keep-extends a r _ _ _ e
 
 kept_mask-extends : (b : Bool) (a r : Reading) (left page mask : ℕ) → Extends a r → Extends a (kept_mask b r left page mask)
 unfolding kept_mask
-kept_mask-extends true a r left page mask e = record { shape = e.shape; head = e.head; pages = e.pages; blocks = e.blocks; sectors = e.sectors; frames = e.frames }
+kept_mask-extends true a r left page mask e = keep-extends a r _ _ _ e
 kept_mask-extends false a r left page mask e =
-    record { shape = e.shape; head = e.head; pages = (_, pushed a.pages e.pages.0 r.pages _ e.pages.1); blocks = e.blocks; sectors = e.sectors; frames = e.frames }
+    record {
+      shape = e.shape;
+      head = e.head;
+      pages = (_, pushed a.pages e.pages.0 r.pages _ e.pages.1);
+      blocks = e.blocks;
+      sectors = e.sectors;
+      frames = e.frames;
+    }
 
 kept_block-extends : (b : Bool) (a r : Reading) (left page more : ℕ) (unit : List ℕ) → Extends a r →
     Extends a (kept_block b r left page more unit)
 unfolding kept_block
-kept_block-extends true a r left page more unit e = record { shape = e.shape; head = e.head; pages = e.pages; blocks = e.blocks; sectors = e.sectors; frames = e.frames }
+kept_block-extends true a r left page more unit e = keep-extends a r _ _ _ e
 kept_block-extends false a r left page more unit e =
-    record { shape = e.shape; head = e.head; pages = e.pages; blocks = (_, pushed a.blocks e.blocks.0 r.blocks unit e.blocks.1); sectors = e.sectors; frames = e.frames }
+    record {
+      shape = e.shape;
+      head = e.head;
+      pages = e.pages;
+      blocks = (_, pushed a.blocks e.blocks.0 r.blocks unit e.blocks.1);
+      sectors = e.sectors;
+      frames = e.frames;
+    }
 
 kept_sector-extends : (b : Bool) (a r : Reading) (left sector : ℕ) (unit : List ℕ) → Extends a r →
     Extends a (kept_sector b r left sector unit)
 unfolding kept_sector
-kept_sector-extends true a r left sector unit e = record { shape = e.shape; head = e.head; pages = e.pages; blocks = e.blocks; sectors = e.sectors; frames = e.frames }
+kept_sector-extends true a r left sector unit e = keep-extends a r _ _ _ e
 kept_sector-extends false a r left sector unit e =
     record {
       shape = e.shape;
@@ -106,7 +126,7 @@ fed_byte-extends a r b e =
       | false ↦ elim (length r.partial + 1 == width_of r) as (λ (whole : Bool). Extends a (if whole
           then judged r (r.partial ++ b ∷ []) else record r { partial = r.partial ++ b ∷ [] })) [
             | true ↦ judged-extends a r _ e
-            | false ↦ record { shape = e.shape; head = e.head; pages = e.pages; blocks = e.blocks; sectors = e.sectors; frames = e.frames }
+            | false ↦ keep-extends a r _ _ _ e
           ]
     ]
 
