@@ -143,6 +143,10 @@ impl World {
             (outcome self.old.start self.old.protocol.state (got self.old.protocol.lines event.entry) event.entry)) }
         ensures err { OnErr result (self.new ≡ self.old) }
     {
+        if let Event::FailPrimary = event {
+            // The record looks at the mode itself.
+            return Ok(self.fail_primary());
+        }
         if let Some(why) = mode_refusal(self.record.mode(), event) {
             return Ok(Reply::Refused(why));
         }

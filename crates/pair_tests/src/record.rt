@@ -7,7 +7,7 @@ ghost use Rattle.frame_ports.specs.Addresses.{IsFrame};
 use crate::asserts::{boxed, holds, made, same, same_bytes};
 use arrayvec::ArrayVec;
 use frame_list::FrameList;
-use pair_record::{Event, Frame, Mode, PairRecord, Reply, is_alone, mode_refusal};
+use pair_record::{Frame, Mode, PairRecord, Reply, is_alone};
 use std::alloc::Global;
 use std::process::Abort;
 
@@ -180,10 +180,7 @@ fn commit(rt: &impl Abort, record: &mut PairRecord) {
 
 /// The primary stops.
 fn fail_primary(rt: &impl Abort, record: &mut PairRecord) {
-    if mode_refusal(record.mode(), Event::FailPrimary).is_some() {
-        panic!(rt; "the primary can't stop");
-    }
-    record.fail_primary();
+    made(rt, record.fail_primary(false));
 }
 
 /// The backup goes live after seven steps, and brings two answers of one commit.
