@@ -118,12 +118,15 @@ fn protect(rt: &impl Abort, record: &mut PairRecord) -> Reply {
     record.begin_protect()
 }
 
-/// Its full checkpoint is sealed.
+/// Its full checkpoint is sealed, after an epoch in which nothing happened.
 fn seal_full(rt: &impl Abort, record: &mut PairRecord) -> Reply {
     if !matches!(record.mode(), Mode::Filling) || record.to_cut() != 0 {
         panic!(rt; "the full checkpoint isn't next");
     }
-    made(rt, record.seal_full())
+    if record.enter_epoch_refusal(0, &[]).is_some() {
+        panic!(rt; "no epoch can enter the history");
+    }
+    made(rt, record.enter_epoch_and_seal_full(0, 0, &[]))
 }
 
 #[test]
