@@ -1,12 +1,13 @@
 -- Failures and new backups, and acknowledgements: the steps that are no member's, and why they are refused.
-use Rattle.std.specs.Prelude.{◌≡◌, ℕ, ◌+◌, nat_le, List, [], ◌∷◌, ◌++◌, length, Option, None, Some}
+use Rattle.std.specs.Prelude.{◌≡◌, ℕ, ◌+◌, nat_le, List, [], ◌∷◌, ◌++◌, length, Option}
 use Rattle.frame_ports.specs.Limits.{number_limit}
 use Rattle.pair_history.specs.Entries.{Entry}
-use Rattle.pair_record.specs.declared.event.Event.TheVariants.{AckGet, FailPrimary, FailBackup, Protect}
+use Rattle.pair_record.specs.declared.event.Event.TheVariants.{AckGet, FailBackup, Protect}
 use Rattle.pair_record.specs.declared.event.Refusal.{Refusal}
 use Rattle.pair_record.specs.declared.event.Refusal.TheVariants.{Exhausted}
 use Rattle.pair_record.specs.Modes.{mode_refusal}
-use Rattle.pair_record.specs.Protocol.{Row, first_refusal, let_go, acknowledge_refusals, fail_within_refusals}
+use Rattle.pair_record.specs.Protocol.{let_go, acknowledge_refusals, fail_primary_refusal, fail_within_refusals}
+pub use Rattle.pair_record.specs.Protocol.{first_of}
 use Rattle.growing_history.specs.Steps.{What, Added, step}
 use Rattle.pair_book.specs.declared.failures.Ack.{Ack}
 use Rattle.pair_book.specs.Books.{BookState}
@@ -25,12 +26,8 @@ AddsAlone (e ∷ es) old new = MakesAlone (Added (e ∷ es)) old new
 
 -- WHY ONE IS REFUSED: by the mode (pair_record's Modes), or else by the first row that holds
 
-abbrev pub first_of : Option Refusal → List Row → Option Refusal
-first_of None rows = first_refusal rows
-first_of (Some why) rows = Some why
-
 abbrev pub fail_primary_why : BookState → Option Refusal
-fail_primary_why b = first_of (mode_refusal b.protocol.mode FailPrimary) ((is_word_full b, Exhausted) ∷ [])
+fail_primary_why b = fail_primary_refusal (is_word_full b) b.protocol
 
 -- what is handed out stays, and so does what the guest sends along its epoch: the outbox counts for nothing
 abbrev pub fail_backup_why : BookState → Option Refusal

@@ -85,13 +85,8 @@ impl<P: Pair> Book<P> {
         ensures why { IfErr result (λ why. fail_primary_why self.old ≡ Some why) }
         ensures refused { OnErr result (self.new ≡ self.old) }
     {
-        if let Some(why) = mode_refusal(self.record.mode(), Event::FailPrimary) {
-            return Err(why);
-        }
-        if self.is_word_full() {
-            return Err(Refusal::Exhausted);
-        }
-        self.record.fail_primary();
+        let word_full = self.is_word_full();
+        self.record.fail_primary(word_full)?;
         self.seats.step_alone(clock, &What::PrimaryFailed);
         Ok(())
     }

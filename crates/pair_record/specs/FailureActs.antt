@@ -1,23 +1,30 @@
 -- What fails, and what follows: the primary stops or the backup does, the backup goes live, a node that is alone gets a new backup.
 -- `X_done` is an event's reply, with the record after it, and the only place that spells them; `on_X` is the event, refused or done.
-use Rattle.std.specs.Prelude.{ℕ, ◌+◌, ◌-◌, nat_le, Bool, List, [], ◌∷◌, ◌++◌, length}
+use Rattle.std.specs.Prelude.{ℕ, ◌+◌, ◌-◌, nat_le, Bool, List, [], ◌∷◌, ◌++◌, length, Option}
 use Rattle.frame_ports.specs.Addresses.{targets_of}
 use Rattle.frame_ports.specs.Lands.{put_count}
 use Rattle.frame_ports.specs.Limits.{number_limit}
 use Rattle.output_gate.specs.Epochs.{frames_of}
+use Rattle.failover.specs.declared.change.Change.TheVariants as changes
 use Rattle.failover.specs.declared.mode.Mode.TheVariants as modes
 use Rattle.pair_history.specs.Entries.{Frame, Entry}
 use Rattle.pair_history.specs.Landings.{landings}
 use Rattle.pair_history.specs.Failures.{drops_of_taken_in}
+use Rattle.pair_record.specs.declared.event.Refusal.{Refusal}
 use Rattle.pair_record.specs.declared.event.Refusal.TheVariants.{Exhausted}
 use Rattle.pair_record.specs.declared.event.Reply.TheVariants as replies
 use Rattle.pair_record.specs.GuestActs.{seal_done}
 use Rattle.pair_history.specs.Journal.{Journal, kept_entries, with_history, entered, discarded}
 use Rattle.pair_record.specs.Limits.{full_checkpoint, first_frame}
+use Rattle.pair_record.specs.Modes.{change_refusal}
 use Rattle.pair_record.specs.Window.{none_pending, uncommitted_of}
-use Rattle.pair_record.specs.Tables.{Record, Sight, Outcome, Row, unless, exhausts}
+use Rattle.pair_record.specs.Tables.{Record, Sight, Outcome, Row, first_of, unless, exhausts}
 
 -- FAILPRIMARY
+
+-- what refuses it: the mode, or else a word of the caller's steps that is full
+abbrev pub fail_primary_refusal : Bool → Record → Option Refusal
+fail_primary_refusal word_full r = first_of (change_refusal changes.FailPrimary r.mode) ((word_full, Exhausted) ∷ [])
 
 -- the primary stops: all else stays
 abbrev pub fail_primary_done : Record → Outcome

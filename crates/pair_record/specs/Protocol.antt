@@ -12,7 +12,7 @@ use Rattle.pair_record.specs.declared.event.Event.TheVariants.{FailPrimary, Fail
 use Rattle.pair_record.specs.declared.event.Packet.{Packet}
 use Rattle.pair_history.specs.Journal.{joined, all_entries}
 use Rattle.pair_record.specs.Modes.{mode_refusal}
-pub use Rattle.pair_record.specs.Tables.{Record, Sight, Outcome, Row, first_refusal, refused, or_else, unless, Refuses, exhausts}
+pub use Rattle.pair_record.specs.Tables.{Record, Sight, Outcome, Row, first_refusal, first_of, refused, or_else, unless, Refuses, exhausts}
 pub use Rattle.pair_record.specs.Tables.{entry_refusals, frames_run_out, is_among}
 pub use Rattle.pair_record.specs.GuestActs.{step_room, step_refusals, step_entries, step_done, on_step, cut_refusals}
 pub use Rattle.pair_record.specs.GuestActs.{seal_done, cut_done, on_cut}
@@ -24,7 +24,7 @@ pub use Rattle.pair_record.specs.ClientActs.{is_bad_length, deliver_refusals, Re
 pub use Rattle.pair_record.specs.ClientActs.{take_refusals}
 pub use Rattle.pair_record.specs.ClientActs.{take_done, on_take, loss_refusals, loss_done, loss_of, loss_reply, on_loss, lost_in, lost_out}
 pub use Rattle.pair_record.specs.ClientActs.{on_lose_in, on_lose_out}
-pub use Rattle.pair_record.specs.FailureActs.{fail_primary_done, on_fail_primary, all_held, fail_backup_refusals, fail_within_refusals}
+pub use Rattle.pair_record.specs.FailureActs.{fail_primary_refusal, fail_primary_done, on_fail_primary, all_held, fail_backup_refusals, fail_within_refusals}
 pub use Rattle.pair_record.specs.FailureActs.{fail_backup_done}
 pub use Rattle.pair_record.specs.FailureActs.{on_fail_backup, live_entries, go_live_refusals, go_live_done, on_go_live, protect_refusals}
 pub use Rattle.pair_record.specs.FailureActs.{landed_after, failure_done, begin_done, full_done, protect_done, on_protect}

@@ -61,6 +61,11 @@ abbrev pub or_else : Option Refusal → (Refusal → Outcome) → Outcome → Ou
 or_else None refuse done = done
 or_else (Some why) refuse done = refuse why
 
+-- the refusal, or else the first row that holds
+abbrev pub first_of : Option Refusal → List Row → Option Refusal
+first_of None rows = first_refusal rows
+first_of (Some why) rows = Some why
+
 -- an event that these rows refuse, and that else is done so
 abbrev pub unless : Record → List Row → Outcome → Outcome
 unless r rows done = or_else (first_refusal rows) (refused r) done

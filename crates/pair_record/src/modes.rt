@@ -73,7 +73,7 @@ fn named(error: FailoverError) -> Refusal
 }
 
 /// Why a change of mode is refused.
-fn change_refusal(change: Change, mode: Mode) -> Option<Refusal>
+pub(crate) fn change_refusal(change: Change, mode: Mode) -> Option<Refusal>
     ensures { result ≡ modes.change_refusal change mode }
 {
     match mode.after(change) {

@@ -6,12 +6,11 @@ ghost use Rattle.frame_ports.specs.Ports.{empty_ports};
 ghost use Rattle.frame_ports.specs.Limits.{max_clients, number_limit};
 ghost use Rattle.pair_history.specs.Entries.{Ran};
 ghost use Rattle.pair_history.specs.Journal.{all_entries, with_running};
-ghost use Rattle.pair_record.specs.Modes.{is_stopped as stopped, is_alone as alone, change_refusal};
-ghost use Rattle.failover.specs.declared.change.Change.TheVariants as changes;
+ghost use Rattle.pair_record.specs.Modes.{is_stopped as stopped, is_alone as alone};
 ghost use Rattle.pair_record.specs.Protocol.{exhausts, frames_run_out as runs_out, is_among, first_refusal};
 ghost use Rattle.pair_record.specs.Protocol.{step_refusals, cut_refusals, cut_done, send_done};
 ghost use Rattle.pair_record.specs.Protocol.{backup_refusals, again_done, commit_done, acknowledge_refusals, ack_done, let_go};
-ghost use Rattle.pair_record.specs.Protocol.{Refuses, fail_primary_done};
+ghost use Rattle.pair_record.specs.Protocol.{Refuses, fail_primary_refusal, fail_primary_done};
 ghost use Rattle.pair_record.specs.declared.event.Reply.TheVariants as replies;
 ghost use Rattle.pair_record.specs.Record.{IsRecord, IsAsBefore, AreNumbered, start_record, ports_after_ack};
 
@@ -24,9 +23,9 @@ mod protect;
 
 use crate::event::{Packet, Refusal, Reply};
 use crate::limits::{FIRST_GENERATION, LAST_FRAME, MOST_PENDING, STEP_ROOM};
-use crate::modes::{filled, is_alone, is_stopped, step_room};
+use crate::modes::{change_refusal, filled, is_alone, is_stopped, step_room};
 use crate::window::Window;
-use failover::Mode;
+use failover::{Change, Mode};
 use frame_ports::{NUMBER_LIMIT, PortError, Ports};
 use memory_wanted::MemoryWanted;
 use output_gate::{Gate, GateError};
@@ -38,8 +37,8 @@ use std::marker::Model;
 /// or packet. Contracts see it as a `RecordState` of the specs.
 ///
 /// What a client or its line does is one call, refused by the first row of its table of refusals that applies, or done; so are an
-/// acknowledgement and the backup's failure. Where a machine's part comes between, a `.._refusal` answers that row, and the event itself
-/// asks that none applies.
+/// acknowledgement, the backup's failure, and the primary's, which looks at the mode too. Where a machine's part comes between, a
+/// `.._refusal` answers that row, and the event itself asks that none applies.
 ///
 /// A call that answers a [`MemoryWanted`] was refused a growth; the record and the ports are as they were then.
 #[derive(Drop)]
@@ -98,14 +97,27 @@ impl PairRecord {
         self.mode
     }
 
-    /// The primary stops.
-    pub fn fail_primary(&mut self) -> Reply
-        requires { change_refusal changes.FailPrimary self.old.protocol.mode ≡ None }
-        ensures protocol { (result, self.new.protocol) ≡ fail_primary_done self.old.protocol }
-        ensures ports { self.new.ports ≡ self.old.ports }
+    /// The primary stops: nothing else changes.
+    ///
+    /// # Errors
+    ///
+    /// [`Refusal::Stopped`] where it has stopped already; [`Refusal::NoImage`] where a node is alone, or its backup has no image yet;
+    /// [`Refusal::Exhausted`] where the word that counts the caller's steps is full.
+    pub fn fail_primary(&mut self, word_full: bool) -> Result<Reply, Refusal>
+        ensures done { IfOk result (λ reply. (reply, self.new.protocol) ≡ fail_primary_done self.old.protocol) }
+        ensures ports { OnOk result (self.new.ports ≡ self.old.ports) }
+        ensures free { OnOk result (fail_primary_refusal word_full self.old.protocol ≡ None) }
+        ensures why { IfErr result (λ why. fail_primary_refusal word_full self.old.protocol ≡ Some why) }
+        ensures refused { OnErr result (IsAsBefore self.old self.new) }
     {
+        if let Some(why) = change_refusal(Change::FailPrimary, self.mode) {
+            return Err(why);
+        }
+        if word_full {
+            return Err(Refusal::Exhausted);
+        }
         self.mode = Mode::Stopped;
-        Reply::Stopped
+        Ok(Reply::Stopped)
     }
 
     /// The generation, from 1.

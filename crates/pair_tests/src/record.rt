@@ -7,7 +7,7 @@ ghost use Rattle.frame_ports.specs.Addresses.{IsFrame};
 use crate::asserts::{boxed, holds, made, same, same_bytes};
 use arrayvec::ArrayVec;
 use frame_list::FrameList;
-use pair_record::{Event, Frame, Mode, PairRecord, Reply, is_alone, mode_refusal};
+use pair_record::{Frame, Mode, PairRecord, Reply, is_alone};
 use std::alloc::Global;
 use std::process::Abort;
 
@@ -118,12 +118,15 @@ fn protect(rt: &impl Abort, record: &mut PairRecord) -> Reply {
     record.begin_protect()
 }
 
-/// Its full checkpoint is sealed.
+/// Its full checkpoint is sealed, after an epoch in which nothing happened.
 fn seal_full(rt: &impl Abort, record: &mut PairRecord) -> Reply {
     if !matches!(record.mode(), Mode::Filling) || record.to_cut() != 0 {
         panic!(rt; "the full checkpoint isn't next");
     }
-    made(rt, record.seal_full())
+    if record.enter_epoch_refusal(0, &[]).is_some() {
+        panic!(rt; "no epoch can enter the history");
+    }
+    made(rt, record.enter_epoch_and_seal_full(0, 0, &[]))
 }
 
 #[test]
@@ -180,10 +183,7 @@ fn commit(rt: &impl Abort, record: &mut PairRecord) {
 
 /// The primary stops.
 fn fail_primary(rt: &impl Abort, record: &mut PairRecord) {
-    if mode_refusal(record.mode(), Event::FailPrimary).is_some() {
-        panic!(rt; "the primary can't stop");
-    }
-    record.fail_primary();
+    made(rt, record.fail_primary(false));
 }
 
 /// The backup goes live after seven steps, and brings two answers of one commit.

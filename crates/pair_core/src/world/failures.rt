@@ -2,22 +2,24 @@
 ghost use Rattle.std.specs.Prelude.{◌≡◌, None};
 ghost use Rattle.pair_record.specs.declared.event.Event.TheVariants as events;
 ghost use Rattle.pair_record.specs.Modes.{mode_refusal};
-ghost use Rattle.pair_record.specs.Protocol.{allowed};
+ghost use Rattle.pair_record.specs.Protocol.{outcome};
 ghost use Rattle.pair_core.specs.Done.{DoesAllowed};
 ghost use Rattle.pair_core.specs.Leaves.{Leaves};
 
-use super::{World, by_table};
+use super::{WORD_FULL, World, by_table};
 use memory_wanted::MemoryWanted;
 use pair_record::Reply;
 
 impl World {
-    /// The primary stops.
+    /// The primary stops, or the mode refuses that.
     pub(super) fn fail_primary(&mut self) -> Reply
-        requires { mode_refusal self.old.protocol.state.mode events.FailPrimary ≡ None }
-        ensures outcome { (result, self.new.protocol.state) ≡ allowed self.old.start self.old.protocol.state None events.FailPrimary }
+        ensures outcome { (result, self.new.protocol.state) ≡ outcome self.old.start self.old.protocol.state None events.FailPrimary }
         ensures leaves { Leaves events.FailPrimary result self.old self.new }
     {
-        self.record.fail_primary()
+        match self.record.fail_primary(WORD_FULL) {
+            Ok(reply) => reply,
+            Err(why) => Reply::Refused(why),
+        }
     }
 
     /// The backup stops, and the primary goes on alone.

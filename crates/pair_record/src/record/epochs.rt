@@ -1,15 +1,13 @@
 //! What happens at the record to epochs of a guest that runs elsewhere: frames are handed out to it, and its epochs come back.
 ghost use Rattle.std.specs.Prelude.{◌≡◌, ◌+◌, ◌<◌, ◌≤◌, length, All, IfOk, OnOk, OnErr, None, Some, true, false, slice_get};
 ghost use Rattle.frame_ports.specs.Addresses.{IsFrame};
-ghost use Rattle.frame_ports.specs.Numbers.{renumbered};
 ghost use Rattle.frame_ports.specs.Ports.{IsClient, inbox_of};
 ghost use Rattle.pair_history.specs.Failures.{arrived_numbers};
 ghost use Rattle.pair_record.specs.EpochActs.{hand_out_done, seal_epoch_done, enter_epoch_refusals, enter_epoch_done};
 ghost use Rattle.pair_record.specs.Modes.{is_alone as alone};
 ghost use Rattle.pair_record.specs.Protocol.{exhausts, first_refusal, admit_refusals, cut_refusals, protect_refusals};
-ghost use Rattle.pair_record.specs.Protocol.{begin_done, full_done};
+ghost use Rattle.pair_record.specs.Protocol.{begin_done};
 ghost use Rattle.pair_record.specs.Record.{IsAsBefore, IsLone, ports_landed, ports_after_admit};
-ghost use Rattle.failover.specs.Modes.{is_filling as filling};
 
 use super::PairRecord;
 use crate::event::{Refusal, Reply};
@@ -139,26 +137,5 @@ impl PairRecord {
         self.mode = Mode::Filling;
         self.generation += 1;
         Reply::Protecting(self.generation)
-    }
-
-    /// The full checkpoint, which no frame waits for, is sealed and pending: what [`PairRecord::protect`] does then. The guest's frames are
-    /// numbered from 1 anew.
-    pub fn seal_full(&mut self) -> Result<Reply, MemoryWanted>
-        requires filling { filling self.old.protocol.mode ≡ true }
-        requires first { self.old.protocol.window.to_cut ≡ 0 }
-        ensures ok { IfOk result (λ reply. (reply, self.new.protocol) ≡ full_done self.old.protocol) }
-        ensures ports { OnOk result (self.new.ports ≡ renumbered self.old.ports) }
-        ensures err { OnErr result (IsAsBefore self.old self.new) }
-    {
-        self.journal.seal_empty()?;
-        let number = self.window.to_cut;
-        self.gate.begin(0);
-        self.ports.renumber();
-        self.gate.hold(number, &[]);
-        self.window.cut();
-        Ok(Reply::Cut {
-            generation: self.generation,
-            number,
-        })
     }
 }

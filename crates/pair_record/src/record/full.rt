@@ -15,7 +15,8 @@ use pair_history::{Frame, count_landings};
 
 impl PairRecord {
     /// An epoch of the guest goes to the history, and what it sent along it lands, as [`PairRecord::enter_epoch`] says; and then the full
-    /// checkpoint is sealed and pending, as [`PairRecord::seal_full`] says. All room is made first.
+    /// checkpoint, which no frame waits for, is sealed and pending: what [`PairRecord::protect`] does after
+    /// [`PairRecord::begin_protect`]. The guest's frames are numbered from 1 anew. All room is made first.
     pub fn enter_epoch_and_seal_full(
         &mut self,
         arrivals: usize,

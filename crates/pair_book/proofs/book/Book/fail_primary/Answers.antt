@@ -1,7 +1,8 @@
-use Rattle.std.proofs.Common.{rules, ◌≡◌, ◌∷◌, ◌++◌, [], ap, refl, None}
+use Rattle.std.proofs.Common.{rules, ◌∷◌, ◌++◌, [], ap, refl}
 use Rattle.failover.specs.declared.change.Change.TheVariants as changes
 use Rattle.pair_record.specs.Modes.{change_refusal}
 use Rattle.pair_record.specs.Protocol.{Outcome, Record}
+use Rattle.pair_record.specs.laws.Modes.{mode_passed}
 use Rattle.growing_history.specs.Steps.{PrimaryFailed, step}
 use Rattle.pair_book.proofs.{FailureTies.primary-tied, CommittedTies.primary-keeps, TextLaws.texts-after}
 use Rattle.pair_book.proofs.book.Book.fail_primary.Goals as goal
@@ -10,20 +11,22 @@ pub step_alone-requires-clause-legal : goal.step_alone-requires-clause-legal
 step_alone-requires-clause-legal g c =
     let r = c.self.inside.record in
     let now = c.fail_primary.new.self in
-    let free : change_refusal changes.FailPrimary r.protocol.mode ≡ None = search rules in
+    let e = c.in_ok-fail_primary.ensures in
+    let free = mode_passed (change_refusal changes.FailPrimary r.protocol.mode) _ e.free in
     (primary-tied g.P.Pair.start c.self.inside.seats.steps r.protocol now.protocol r.ports now.ports c.self.invariant.0 free
-    (ap (λ (o : Outcome). o.1) c.fail_primary.ensures.protocol) c.fail_primary.ensures.ports).legal
+    (ap (λ (o : Outcome). o.1) e.done) e.ports).legal
 
-pub invariant_of-self : goal.invariant_of-self
-invariant_of-self g c =
+pub invariant_of-self-2 : goal.invariant_of-self-2
+invariant_of-self-2 g c =
     let r = c.self.inside.record in
     let now = c.fail_primary.new.self in
-    let free : change_refusal changes.FailPrimary r.protocol.mode ≡ None = search rules in
+    let e = c.in_ok-fail_primary.ensures in
+    let done = ap (λ (o : Outcome). o.1) e.done in
+    let free = mode_passed (change_refusal changes.FailPrimary r.protocol.mode) _ e.free in
     let tied = primary-tied g.P.Pair.start c.self.inside.seats.steps r.protocol now.protocol r.ports now.ports c.self.invariant.0 free
-    (ap (λ (o : Outcome). o.1) c.fail_primary.ensures.protocol) c.fail_primary.ensures.ports in
-    let done = ap (λ (o : Outcome). o.1) c.fail_primary.ensures.protocol in
+    done e.ports in
     let keeps = primary-keeps g.P.Pair.start c.self.inside.seats.steps r.protocol now.protocol r.ports now.ports c.self.invariant.1 0 free
-    done c.fail_primary.ensures.ports in
+    done e.ports in
     let texts = texts-after g.P.Pair.start c.self.inside.seats.steps (c.self.inside.seats.steps ++ step 0 PrimaryFailed ∷ []) r.protocol
     now.protocol c.self.inside.texts.packets c.self.invariant.2 0 PrimaryFailed refl refl (ap (λ (y : Record). y.generation) done)
     (ap (λ (y : Record). y.window) done) in
