@@ -8,14 +8,14 @@ from host.node import WRITTEN
 
 AT_ONCE = 256  # pages that it may write before any of the text is fetched
 BUDGET = 1000  # pages that it may have written once all of it is
-STEPS_A_PAGE = 2  # no guest writes a page it hasn't written by fewer steps, but one whose disk writes its memory
+STEPS_A_PAGE = 2  # a guest's own stores need about so many for a page that it hasn't written; its disk needs one step for all
 GROWTH = 4  # times as many steps as the last ones, at most, so that one that begins to write is seen
 MOST = 8000  # steps at once: one that begins to write with them writes so many pages more as are compared in 7 ms
 TRY_EVERY = 0.001  # seconds, of one that waits
 PATIENCE = 0.004  # after so many seconds without a step it is given
 FEW = 32  # steps
 STALLED = 0.05  # seconds without a part of the text that the link took
-BURST = BUDGET + MOST // STEPS_A_PAGE  # pages: above the budget by what only a disk writes within so few steps
+BURST = BUDGET + MOST // STEPS_A_PAGE  # pages: above the budget by as many as its own stores write with so many steps at once
 MOST_AGAIN = 3  # times that a filling is begun again: then it goes on, so that each guest is protected in the end
 
 
