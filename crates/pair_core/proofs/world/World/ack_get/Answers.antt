@@ -51,27 +51,35 @@ invariant_of-self c =
     (ack_holds w c.self.invariant c.keep.ensures.record c.keep.ensures.numbers c.keep.ensures.clients p.number free.1)
 
 pub returns : goal.returns
-returns c =
-    ((let w = pair_of c.self.inside in
-    let p = c.in-Some.packet in
-    let at = (goal.at.returns c).In-Some in
-    let rows = ack_refusals w.ports.boxes w.protocol.state p in
-    let first = named (acknowledge_refusals false w.ports.boxes w.protocol.state p) _ c.in-Err.why c.in_ok-why-in-Err.ensures.other c.in-Err.ensures.why in
-    (λ i. (replies.Refused (c.in_ok-why-in-Err.ensures.same i), c.in-Err.ensures.refused.0 i))
-    ∙ rw (← c.self.view_is) (seen at _ (refused_by_the_first w.protocol.state rows (ack_done w.ports.boxes w.protocol.state p.number) c.in-Err.why
-    (sym (table at) ∙ first)))), search rules, search rules, search rules)
+returns c = (
+  (let w = pair_of c.self.inside in
+      let p = c.in-Some.packet in
+      let at = (goal.at.returns c).In-Some in
+      let rows = ack_refusals w.ports.boxes w.protocol.state p in
+      let first = named (acknowledge_refusals false w.ports.boxes w.protocol.state p) _ c.in-Err.why c.in_ok-why-in-Err.ensures.other c.in-Err.ensures.why in
+      (λ i. (replies.Refused (c.in_ok-why-in-Err.ensures.same i), c.in-Err.ensures.refused.0 i))
+      ∙ rw (← c.self.view_is) (seen at _ (refused_by_the_first w.protocol.state rows (ack_done w.ports.boxes w.protocol.state p.number) c.in-Err.why
+      (sym (table at) ∙ first)))),
+  search rules,
+  search rules,
+  search rules,
+)
 
 -- it adds an entry for each frame that leaves
 pub returns-in_err-why-in-Err : goal.returns-in_err-why-in-Err
-returns-in_err-why-in-Err c =
-    (search rules, search rules, (let w = pair_of c.self.inside in
-    let r = w.protocol.state in
-    let b = w.ports.boxes in
-    let p = c.in-Some.packet in
-    let at = (goal.at.returns-in_err-why-in-Err c).In-Some in
-    let leaving = let_go b r p.number in
-    let why = rw c.in_err-why-in-Err.ensures.memory at c.in-Err.ensures.why in
-    let goes_on = seen at _ (done_if_none_refuses r (ack_refusals b r p) (ack_done b r p.number) (sym (table at) ∙ why.0)) in
-    let adds : AddsEntries r (ack_done b r p.number).1 =
-    omega (arith, length-append r.journal.history (landings b leaving), length-landings b leaving, why.1) in
-    rw (← c.self.view_is) (on_err _ _ (subst (MayWantMemory r) goes_on adds))), search rules)
+returns-in_err-why-in-Err c = (
+  search rules,
+  search rules,
+  (let w = pair_of c.self.inside in
+      let r = w.protocol.state in
+      let b = w.ports.boxes in
+      let p = c.in-Some.packet in
+      let at = (goal.at.returns-in_err-why-in-Err c).In-Some in
+      let leaving = let_go b r p.number in
+      let why = rw c.in_err-why-in-Err.ensures.memory at c.in-Err.ensures.why in
+      let goes_on = seen at _ (done_if_none_refuses r (ack_refusals b r p) (ack_done b r p.number) (sym (table at) ∙ why.0)) in
+      let adds : AddsEntries r (ack_done b r p.number).1 =
+      omega (arith, length-append r.journal.history (landings b leaving), length-landings b leaving, why.1) in
+      rw (← c.self.view_is) (on_err _ _ (subst (MayWantMemory r) goes_on adds))),
+  search rules,
+)

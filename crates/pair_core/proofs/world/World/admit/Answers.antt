@@ -12,11 +12,15 @@ returns-then-inbox_len-eq0 c =
     ((search (arith, rules, admit_finds_none)), search rules, search rules, search rules)
 
 pub returns-in-Some-admit_refusal : goal.returns-in-Some-admit_refusal
-returns-in-Some-admit_refusal c =
-    ((let w = pair_of c.self.inside in
-    rw (← c.self.view_is) (admit_is_refused w c.self.invariant c.args.client c.arrival_refusal.result c.arrival_refusal.ensures c.in_default.is
-    (λ e. c.if-inbox_len-eq0.false (c.inbox_len.ensures ∙ e)) c.admit_refusal.result c.admit_refusal.ensures c.in-Some-admit_refusal.why
-    c.in-Some-admit_refusal.is)), search rules, search rules, search rules)
+returns-in-Some-admit_refusal c = (
+  (let w = pair_of c.self.inside in
+      rw (← c.self.view_is) (admit_is_refused w c.self.invariant c.args.client c.arrival_refusal.result c.arrival_refusal.ensures c.in_default.is
+      (λ e. c.if-inbox_len-eq0.false (c.inbox_len.ensures ∙ e)) c.admit_refusal.result c.admit_refusal.ensures c.in-Some-admit_refusal.why
+      c.in-Some-admit_refusal.is)),
+  search rules,
+  search rules,
+  search rules,
+)
 
 pub returns-in_err-number : goal.returns-in_err-number
 returns-in_err-number c =
@@ -32,9 +36,13 @@ invariant_of-self-2 c =
     c.in_ok-number.ensures.first)
 
 pub returns : goal.returns
-returns c =
-    ((let w = pair_of c.self.inside in
-    (λ i. (replies.Admitted c.in_ok-number.number, c.in_ok-number.ensures.protocol i))
-    ∙ (rw (← c.self.view_is) (admit_is_done w c.self.invariant c.args.client c.arrival_refusal.result c.arrival_refusal.ensures c.in_default.is
-    (λ e. c.if-inbox_len-eq0.false (c.inbox_len.ensures ∙ e)) c.admit_refusal.result c.admit_refusal.ensures c.in_ok-number.number
-    c.in_ok-number.frame c.in_ok-number.ensures.first c.in_default-admit_refusal.is))), search rules, search rules, search rules)
+returns c = (
+  (let w = pair_of c.self.inside in
+      (λ i. (replies.Admitted c.in_ok-number.number, c.in_ok-number.ensures.protocol i))
+      ∙ (rw (← c.self.view_is) (admit_is_done w c.self.invariant c.args.client c.arrival_refusal.result c.arrival_refusal.ensures c.in_default.is
+      (λ e. c.if-inbox_len-eq0.false (c.inbox_len.ensures ∙ e)) c.admit_refusal.result c.admit_refusal.ensures c.in_ok-number.number
+      c.in_ok-number.frame c.in_ok-number.ensures.first c.in_default-admit_refusal.is))),
+  search rules,
+  search rules,
+  search rules,
+)

@@ -123,24 +123,28 @@ invariant_of-self-2 c =
     (commit_holds w c.self.invariant c.backup_refusal.ensures.record c.keep.ensures.numbers (two c.args.k c.self.view_is c.requires) more)
 
 pub returns : goal.returns
-returns c =
-    (search rules, (let w = pair_of c.self.inside in
-    let reply = ap (λ (o : Outcome). o.0) c.in-Ok.ensures.ok in
-    let h = c.self.invariant in
-    let k = c.backup_refusal.ensures.record in
-    let alone = two c.args.k c.self.view_is c.requires in
-    let more = names_next w.protocol.state c.in-Some.packet _ _ c.backup_refusal.ensures.refusal c.in_default-backup_refusal.is
-    (names_cut w c.self.invariant c.args.k c.in-Some.packet _ c.packet.ensures c.in-Some.is) c.to_commit-number.ensures
-    c.if-packet-number.false in
-    let now = in_mode w h k in
-    let then = in_mode (after_commit w) (commit_holds w h k c.keep.ensures.numbers alone more) (commit_record w.protocol.state k more) in
-    record {
-      start = search rules;
-      lines = rw (← c.self.view_is) (lines_are (goal.at.returns c).After-commit-2 ∙ ap (lines_after w.protocol) (sym reply));
-      replicates = rw (← c.self.view_is) (subst (λ (o : Reply × Nodes). Replicates (BackupGet c.args.k) o.0 w.nodes o.1) (λ i. (
-        sym reply i,
-        sym
-            c.commit-2.ensures i,
-      )) (commit_replicates w k alone now then more));
-      refused = search rules;
-    }), search rules, search rules)
+returns c = (
+  search rules,
+  (let w = pair_of c.self.inside in
+      let reply = ap (λ (o : Outcome). o.0) c.in-Ok.ensures.ok in
+      let h = c.self.invariant in
+      let k = c.backup_refusal.ensures.record in
+      let alone = two c.args.k c.self.view_is c.requires in
+      let more = names_next w.protocol.state c.in-Some.packet _ _ c.backup_refusal.ensures.refusal c.in_default-backup_refusal.is
+      (names_cut w c.self.invariant c.args.k c.in-Some.packet _ c.packet.ensures c.in-Some.is) c.to_commit-number.ensures
+      c.if-packet-number.false in
+      let now = in_mode w h k in
+      let then = in_mode (after_commit w) (commit_holds w h k c.keep.ensures.numbers alone more) (commit_record w.protocol.state k more) in
+      record {
+        start = search rules;
+        lines = rw (← c.self.view_is) (lines_are (goal.at.returns c).After-commit-2 ∙ ap (lines_after w.protocol) (sym reply));
+        replicates = rw (← c.self.view_is) (subst (λ (o : Reply × Nodes). Replicates (BackupGet c.args.k) o.0 w.nodes o.1) (λ i. (
+          sym reply i,
+          sym
+              c.commit-2.ensures i,
+        )) (commit_replicates w k alone now then more));
+        refused = search rules;
+      }),
+  search rules,
+  search rules,
+)

@@ -47,26 +47,29 @@ invariant_of-self-2 c =
     (makes (goal.at.invariant_of-self-2 c).In_ok-reply))
 
 pub returns : goal.returns
-returns c =
-    ((let w = pair_of c.self.inside in
-    rw (← c.self.view_is) (done (goal.at.returns c).In_ok-reply
-    ∙ done_if_none_refuses w.protocol.state (cut_refusals w.protocol.state) (cut_done w.nodes.live.outbox w.protocol.state)
-    (sym c.cut_refusal.ensures.refusal ∙ c.in_default.is)
-    ∙ cut_sees_the_pair w c.self.invariant)),
-    (let w = pair_of c.self.inside in
-    let text = c.in_ok-text.text.items in
-    let nodes = c.seal.ensures ∙ ap (λ (x : Nodes). with_sealed x text) c.checkpoint.ensures.nodes in
-    let reply = ap (λ (o : Outcome). o.0) (done (goal.at.returns c).In_ok-reply) in
-    let h = c.self.invariant in
-    let k = c.cut_refusal.ensures.record in
-    let alone = two c.self.view_is c.requires in
-    let now = in_mode w h k in
-    let then = in_mode (after_cut w text) (cut_holds w h k c.keep.ensures.numbers text (makes (goal.at.returns c).In_ok-reply))
-    (cut_record w.protocol.state k w.nodes.live.outbox alone (sym c.cut_refusal.ensures.refusal ∙ c.in_default.is)) in
-    record {
-      start = search rules;
-      lines = search rules;
-      replicates = rw (← c.self.view_is) (subst (λ (o : Reply × Nodes). Replicates Cut o.0 w.nodes o.1) (λ i. (sym reply i, sym nodes i)) (cut_replicates w
-          k alone now text then (live_is w h)));
-      refused = search rules;
-    }), search rules, search rules)
+returns c = (
+  (let w = pair_of c.self.inside in
+      rw (← c.self.view_is) (done (goal.at.returns c).In_ok-reply
+      ∙ done_if_none_refuses w.protocol.state (cut_refusals w.protocol.state) (cut_done w.nodes.live.outbox w.protocol.state)
+      (sym c.cut_refusal.ensures.refusal ∙ c.in_default.is)
+      ∙ cut_sees_the_pair w c.self.invariant)),
+  (let w = pair_of c.self.inside in
+      let text = c.in_ok-text.text.items in
+      let nodes = c.seal.ensures ∙ ap (λ (x : Nodes). with_sealed x text) c.checkpoint.ensures.nodes in
+      let reply = ap (λ (o : Outcome). o.0) (done (goal.at.returns c).In_ok-reply) in
+      let h = c.self.invariant in
+      let k = c.cut_refusal.ensures.record in
+      let alone = two c.self.view_is c.requires in
+      let now = in_mode w h k in
+      let then = in_mode (after_cut w text) (cut_holds w h k c.keep.ensures.numbers text (makes (goal.at.returns c).In_ok-reply))
+      (cut_record w.protocol.state k w.nodes.live.outbox alone (sym c.cut_refusal.ensures.refusal ∙ c.in_default.is)) in
+      record {
+        start = search rules;
+        lines = search rules;
+        replicates = rw (← c.self.view_is) (subst (λ (o : Reply × Nodes). Replicates Cut o.0 w.nodes o.1) (λ i. (sym reply i, sym nodes i)) (cut_replicates w
+            k alone now text then (live_is w h)));
+        refused = search rules;
+      }),
+  search rules,
+  search rules,
+)

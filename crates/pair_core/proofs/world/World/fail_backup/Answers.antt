@@ -29,29 +29,37 @@ fail_backup-requires-clause-sealed c =
     some_cut w c.self.invariant c.keep.ensures.record two
 
 pub returns : goal.returns
-returns c =
-    ((let w = pair_of c.self.inside in
-    let b = w.ports.boxes in
-    let outbox = w.nodes.live.outbox in
-    let at = (goal.at.returns c).After-fail_backup in
-    let first =
-    named (fail_backup_refusals b c.outbox.result.now w.protocol.state) _ c.in-Err.why c.in_ok-why-in-Err.ensures.other c.in-Err.ensures.why in
-    (λ i. (replies.Refused (c.in_ok-why-in-Err.ensures.same i), c.in-Err.ensures.refused.0 i))
-    ∙ rw (← c.self.view_is) (refused_by_the_first w.protocol.state (fail_backup_refusals b outbox w.protocol.state)
-    (fail_backup_done b outbox w.protocol.state) c.in-Err.why (sym (table at) ∙ first) ∙ fail_backup_sees_the_pair w c.self.invariant)), search rules, search rules, search rules)
+returns c = (
+  (let w = pair_of c.self.inside in
+      let b = w.ports.boxes in
+      let outbox = w.nodes.live.outbox in
+      let at = (goal.at.returns c).After-fail_backup in
+      let first =
+      named (fail_backup_refusals b c.outbox.result.now w.protocol.state) _ c.in-Err.why c.in_ok-why-in-Err.ensures.other c.in-Err.ensures.why in
+      (λ i. (replies.Refused (c.in_ok-why-in-Err.ensures.same i), c.in-Err.ensures.refused.0 i))
+      ∙ rw (← c.self.view_is) (refused_by_the_first w.protocol.state (fail_backup_refusals b outbox w.protocol.state)
+      (fail_backup_done b outbox w.protocol.state) c.in-Err.why (sym (table at) ∙ first) ∙ fail_backup_sees_the_pair w c.self.invariant)),
+  search rules,
+  search rules,
+  search rules,
+)
 
 pub returns-in_err-why-in-Err : goal.returns-in_err-why-in-Err
-returns-in_err-why-in-Err c =
-    (search rules, search rules, (let w = pair_of c.self.inside in
-    let b = w.ports.boxes in
-    let outbox = w.nodes.live.outbox in
-    let at = (goal.at.returns-in_err-why-in-Err c).After-fail_backup in
-    let why = rw c.in_err-why-in-Err.ensures.memory at c.in-Err.ensures.why in
-    let goes_on =
-    done_if_none_refuses w.protocol.state (fail_backup_refusals b outbox w.protocol.state) (fail_backup_done b outbox w.protocol.state)
-    (sym (table at) ∙ why.0)
-    ∙ fail_backup_sees_the_pair w c.self.invariant in
-    rw (← c.self.view_is) (on_err _ _ (subst (MayWantMemory w.protocol.state) goes_on tt))), search rules)
+returns-in_err-why-in-Err c = (
+  search rules,
+  search rules,
+  (let w = pair_of c.self.inside in
+      let b = w.ports.boxes in
+      let outbox = w.nodes.live.outbox in
+      let at = (goal.at.returns-in_err-why-in-Err c).After-fail_backup in
+      let why = rw c.in_err-why-in-Err.ensures.memory at c.in-Err.ensures.why in
+      let goes_on =
+      done_if_none_refuses w.protocol.state (fail_backup_refusals b outbox w.protocol.state) (fail_backup_done b outbox w.protocol.state)
+      (sym (table at) ∙ why.0)
+      ∙ fail_backup_sees_the_pair w c.self.invariant in
+      rw (← c.self.view_is) (on_err _ _ (subst (MayWantMemory w.protocol.state) goes_on tt))),
+  search rules,
+)
 
 pub invariant_of-self : goal.invariant_of-self
 invariant_of-self c =
@@ -65,14 +73,18 @@ invariant_of-self c =
     (let cut = c.keep.ensures.record.window.cut in omega arith))
 
 pub returns-in-Ok : goal.returns-in-Ok
-returns-in-Ok c =
-    ((let w = pair_of c.self.inside in
-    let b = w.ports.boxes in
-    let outbox = w.nodes.live.outbox in
-    let at = (goal.at.returns-in-Ok c).After-fail_backup in
-    rw (← c.self.view_is)
-    (c.in-Ok.ensures.ok
-    ∙ ap (λ (fs : List Frame). fail_backup_done b fs w.protocol.state) c.outbox.ensures.value
-    ∙ done_if_none_refuses w.protocol.state (fail_backup_refusals b outbox w.protocol.state) (fail_backup_done b outbox w.protocol.state)
-    (sym (table at) ∙ c.in-Ok.ensures.free)
-    ∙ fail_backup_sees_the_pair w c.self.invariant)), search rules, search rules, search rules)
+returns-in-Ok c = (
+  (let w = pair_of c.self.inside in
+      let b = w.ports.boxes in
+      let outbox = w.nodes.live.outbox in
+      let at = (goal.at.returns-in-Ok c).After-fail_backup in
+      rw (← c.self.view_is)
+      (c.in-Ok.ensures.ok
+      ∙ ap (λ (fs : List Frame). fail_backup_done b fs w.protocol.state) c.outbox.ensures.value
+      ∙ done_if_none_refuses w.protocol.state (fail_backup_refusals b outbox w.protocol.state) (fail_backup_done b outbox w.protocol.state)
+      (sym (table at) ∙ c.in-Ok.ensures.free)
+      ∙ fail_backup_sees_the_pair w c.self.invariant)),
+  search rules,
+  search rules,
+  search rules,
+)

@@ -38,14 +38,22 @@ go_live-requires-clause-frames c =
     c.epochs-frames.ensures.rules.frames)
 
 pub returns-in-Some : goal.returns-in-Some
-returns-in-Some c =
-    ((let row = table (goal.at.returns-in-Some c).After-go_live_refusal in
-    search (arith, rules, row)), search rules, search rules, search rules)
+returns-in-Some c = (
+  (let row = table (goal.at.returns-in-Some c).After-go_live_refusal in
+      search (arith, rules, row)),
+  search rules,
+  search rules,
+  search rules,
+)
 
 pub returns-in_err-reply : goal.returns-in_err-reply
-returns-in_err-reply c =
-    (search rules, search rules, (let row = table (goal.at.returns-in_err-reply c).After-go_live_refusal in
-    search (arith, rules, row)), search rules)
+returns-in_err-reply c = (
+  search rules,
+  search rules,
+  (let row = table (goal.at.returns-in_err-reply c).After-go_live_refusal in
+      search (arith, rules, row)),
+  search rules,
+)
 
 pub invariant_of-self-2 : goal.invariant_of-self-2
 invariant_of-self-2 c =
@@ -62,8 +70,12 @@ invariant_of-self-2 c =
     (gone_live_holds w c.self.invariant two some c.image_steps-steps.result last)
 
 pub returns : goal.returns
-returns c =
-    ((let at = (goal.at.returns c).After-go_live_refusal in
-    let row = table at in
-    let done = c.in_ok-reply.ensures.owed (brings_here at) in
-    search (arith, rules, row, done)), search rules, search rules, search rules)
+returns c = (
+  (let at = (goal.at.returns c).After-go_live_refusal in
+      let row = table at in
+      let done = c.in_ok-reply.ensures.owed (brings_here at) in
+      search (arith, rules, row, done)),
+  search rules,
+  search rules,
+  search rules,
+)

@@ -16,29 +16,41 @@ invariant_of-self c =
     c.lose_in.new.self.ports c.in-Ok.ensures.free c.in-Ok.ensures.done c.in-Ok.ensures.ports
 
 pub returns-in-Ok : goal.returns-in-Ok
-returns-in-Ok c =
-    ((let w = pair_of c.self.inside in
-    let client = c.args.client in
-    let place = c.args.place in
-    (λ i. (c.lost.ensures i, c.lose_in.new.self.protocol)) ∙ c.in-Ok.ensures.done
-    ∙ rw (← c.self.view_is) (loss_is_done w (LoseIn client place) client (lost_in (list_of w.ports.inboxes client) place) (lose_in_sees_the_pair w c.self.invariant client place)
-    c.in-Ok.ensures.free)), search rules, search rules, search rules)
+returns-in-Ok c = (
+  (let w = pair_of c.self.inside in
+      let client = c.args.client in
+      let place = c.args.place in
+      (λ i. (c.lost.ensures i, c.lose_in.new.self.protocol)) ∙ c.in-Ok.ensures.done
+      ∙ rw (← c.self.view_is) (loss_is_done w (LoseIn client place) client (lost_in (list_of w.ports.inboxes client) place) (lose_in_sees_the_pair w c.self.invariant client place)
+      c.in-Ok.ensures.free)),
+  search rules,
+  search rules,
+  search rules,
+)
 
 pub returns-in_err-why-in-Err : goal.returns-in_err-why-in-Err
-returns-in_err-why-in-Err c =
-    (search rules, search rules, (let w = pair_of c.self.inside in
-    let client = c.args.client in
-    let place = c.args.place in
-    let why = rw c.in_err-why-in-Err.ensures.memory at c.in-Err.ensures.why in
-    rw (← c.self.view_is) (on_err _ _ (loss_may_want w (LoseIn client place) client (lost_in (list_of w.ports.inboxes client) place) (lose_in_sees_the_pair w c.self.invariant client place) why.0 why.1))), search rules)
+returns-in_err-why-in-Err c = (
+  search rules,
+  search rules,
+  (let w = pair_of c.self.inside in
+      let client = c.args.client in
+      let place = c.args.place in
+      let why = rw c.in_err-why-in-Err.ensures.memory at c.in-Err.ensures.why in
+      rw (← c.self.view_is) (on_err _ _ (loss_may_want w (LoseIn client place) client (lost_in (list_of w.ports.inboxes client) place) (lose_in_sees_the_pair w c.self.invariant client place) why.0 why.1))),
+  search rules,
+)
 
 pub returns : goal.returns
-returns c =
-    ((let w = pair_of c.self.inside in
-    let client = c.args.client in
-    let place = c.args.place in
-    let lost = lost_in (list_of w.ports.inboxes client) place in
-    let rows = loss_refusals false (length w.ports.boxes) w.protocol.state client lost in
-    (λ i. (replies.Refused (c.in_ok-why-in-Err.ensures.same i), c.in-Err.ensures.refused.0 i))
-    ∙ rw (← c.self.view_is) (refused_by_the_first w.protocol.state rows (loss_of w.protocol.state lost) c.in-Err.why
-    (named rows _ c.in-Err.why c.in_ok-why-in-Err.ensures.other c.in-Err.ensures.why) ∙ lose_in_sees_the_pair w c.self.invariant client place)), search rules, search rules, search rules)
+returns c = (
+  (let w = pair_of c.self.inside in
+      let client = c.args.client in
+      let place = c.args.place in
+      let lost = lost_in (list_of w.ports.inboxes client) place in
+      let rows = loss_refusals false (length w.ports.boxes) w.protocol.state client lost in
+      (λ i. (replies.Refused (c.in_ok-why-in-Err.ensures.same i), c.in-Err.ensures.refused.0 i))
+      ∙ rw (← c.self.view_is) (refused_by_the_first w.protocol.state rows (loss_of w.protocol.state lost) c.in-Err.why
+      (named rows _ c.in-Err.why c.in_ok-why-in-Err.ensures.other c.in-Err.ensures.why) ∙ lose_in_sees_the_pair w c.self.invariant client place)),
+  search rules,
+  search rules,
+  search rules,
+)

@@ -36,16 +36,20 @@ invariant_of-self-2 c =
     (protect_holds w c.self.invariant lone last text (makes (goal.at.invariant_of-self-2 c).In_ok-image))
 
 pub returns : goal.returns
-returns c =
-    (search rules, (let w = pair_of c.self.inside in
-    let text = c.in_ok-image.text.items in
-    let reply = ap (λ (o : Outcome). o.0) c.in-Ok.ensures.ok in
-    let nodes = c.protect-2.ensures ∙ ap (λ (x : Nodes). with_protected x text) c.full_checkpoint.ensures.nodes in
-    record {
-      start = search rules;
-      lines = search rules;
-      replicates = rw (← c.self.view_is) (subst (λ (o : Reply × Nodes). Replicates Protect o.0 w.nodes o.1) (λ i. (sym reply i, sym nodes i))
-          (protect_replicates w.nodes (c.generation-generation.result + 1) text (λ (before : Guest). c.in_ok-image.ensures.text before
-          c.self.invariant.nodes.shape)));
-      refused = search rules;
-    }), search rules, search rules)
+returns c = (
+  search rules,
+  (let w = pair_of c.self.inside in
+      let text = c.in_ok-image.text.items in
+      let reply = ap (λ (o : Outcome). o.0) c.in-Ok.ensures.ok in
+      let nodes = c.protect-2.ensures ∙ ap (λ (x : Nodes). with_protected x text) c.full_checkpoint.ensures.nodes in
+      record {
+        start = search rules;
+        lines = search rules;
+        replicates = rw (← c.self.view_is) (subst (λ (o : Reply × Nodes). Replicates Protect o.0 w.nodes o.1) (λ i. (sym reply i, sym nodes i))
+            (protect_replicates w.nodes (c.generation-generation.result + 1) text (λ (before : Guest). c.in_ok-image.ensures.text before
+            c.self.invariant.nodes.shape)));
+        refused = search rules;
+      }),
+  search rules,
+  search rules,
+)

@@ -26,12 +26,16 @@ invariant_of-self-2 c =
     (lines_hold w c.self.invariant _ (named-sent w.protocol.state w.protocol.lines c.self.invariant.lines c.keep.ensures.record.window))
 
 pub returns : goal.returns
-returns c =
-    (search rules, (let w = pair_of c.self.inside in
-    let reply = ap (λ (o : Outcome). o.0) c.send-2.ensures in
-    record {
-      start = search rules;
-      lines = rw (← c.self.view_is) (lines_are (goal.at.returns c).After-send-2 ∙ ap (lines_after w.protocol) (sym reply));
-      replicates = search rules;
-      refused = search rules;
-    }), search rules, search rules)
+returns c = (
+  search rules,
+  (let w = pair_of c.self.inside in
+      let reply = ap (λ (o : Outcome). o.0) c.send-2.ensures in
+      record {
+        start = search rules;
+        lines = rw (← c.self.view_is) (lines_are (goal.at.returns c).After-send-2 ∙ ap (lines_after w.protocol) (sym reply));
+        replicates = search rules;
+        refused = search rules;
+      }),
+  search rules,
+  search rules,
+)
