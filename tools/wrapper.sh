@@ -194,6 +194,8 @@ run_program() {
     trap 'stopped=HUP; kill "$child" 2>/dev/null' HUP
     "$program" ${words[@]+"${words[@]}"} <&0 2>&"$words_said" {words_said}>&- &
     child=$!
+    # One that came before the child was known.
+    [ -z "$stopped" ] || kill "$child" 2>/dev/null
     while wait "$child"; status=$?; [ -n "$stopped" ] && kill -0 "$child" 2>/dev/null; do :; done
     trap - INT TERM HUP
     [ -z "$stopped" ] || kill -s "$stopped" $$
