@@ -2,8 +2,9 @@
 takes as long as there are pages that the guest has written by then. So it may write so many more with each part of the text that is
 fetched; one that has written its part waits for the next part. A guest that writes less makes its steps as ever.
 
-No pace helps where a burst comes: a guest's disk may write nearly all its memory within one step, and a guest that isn't paced, since the
-link takes nothing, as much. The filling is then begun again, a few times: the next full checkpoint has what was written."""
+No pace by pages helps where a burst comes: a guest's disk may write nearly all its memory within one step, and a guest that isn't paced,
+since the link takes nothing, as much. The filling is then begun again, since the next full checkpoint has what was written; and each time
+the guest runs slower meanwhile, so that one whose disk does so over and over is filled between two of its bursts."""
 from host.node import WRITTEN
 
 AT_ONCE = 256  # pages that it may write before any of the text is fetched
@@ -17,6 +18,8 @@ FEW = 32  # steps
 STALLED = 0.05  # seconds without a part of the text that the link took
 BURST = BUDGET + MOST // STEPS_A_PAGE  # pages: above the budget by as many as its own stores write with so many steps at once
 MOST_AGAIN = 3  # times that a filling is begun again: then it goes on, so that each guest is protected in the end
+SLOWER = 8  # times as slow each time
+SOON = 10  # seconds: a standby that comes later is another filling, begun for the first time
 
 
 class Pace:
@@ -51,10 +54,12 @@ class Pacer:
         self.live, self.pace = live, None
         self.is_counted = True  # whether what the pace knows to be written is all
         self.sent_at = self.tried_at = 0.0  # when a part of a text was sent, and the guest was to make steps
-        self.again = 0  # how often the filling was begun again
+        self.again, self.again_at = 0, 0.0  # how often the filling was begun again, and when
 
     def begin(self, now):
         self.pace, self.is_counted, self.sent_at, self.tried_at = Pace(), True, now, now
+        if now - self.again_at > SOON:
+            self.again = 0
 
     def end(self):
         self.pace, self.again = None, 0
@@ -83,6 +88,7 @@ class Pacer:
                 self.burst(self.pace.written, "while the link took nothing", now)
                 return
         part = live.sent / live.pending[0].total if live.sending == 0 else 1.0
+        due = self.slowed(due)
         while due > 0 and not live.is_full and (steps := self.pace.steps(due, part, now - live.ran_at)) > 0:
             live.longest = max(live.longest, now - live.ran_at)
             before, (step, show) = live.steps, live.tell(b"step %d" % steps, b"show")
@@ -96,8 +102,18 @@ class Pacer:
         self.tried_at = now
         left = now - live.guest_begun - (live.made + live.slice) / live.rate
         if self.is_held and left > 0:
-            live.skip(left)
-            live.counts.paced += left
+            self.leave_out(left)
+
+    def slowed(self, due):
+        """Of the steps that are due those that it is given, slower each time that the filling was begun again. The time of the others is
+        left out."""
+        given = max(due // SLOWER ** self.again, min(due, 1))
+        self.leave_out((due - given) / self.live.rate)
+        return given
+
+    def leave_out(self, seconds):
+        self.live.skip(seconds)
+        self.live.counts.paced += seconds
 
     def burst(self, pages, how, now):
         """Begins the filling again, or, where that was done often enough or all of the text is fetched, lets it and the guest go on."""
@@ -106,7 +122,7 @@ class Pacer:
         if again < MOST_AGAIN and not self.live.is_fetched:
             log.info(f"{told}: it is filled anew, {again + 1} of {MOST_AGAIN} times, so that the guest doesn't stand for them at a cut")
             self.live.begin_again(now)
-            self.again = again + 1
+            self.again, self.again_at = again + 1, now
         else:
             log.warning(f"{told}: it was filled anew {again} times, and now the guest stands for them at the next cut")
             self.pace = None
