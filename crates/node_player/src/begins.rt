@@ -12,13 +12,19 @@ ghost use Rattle.script_player.specs.Session.{IsAnswered};
 
 use crate::printing::{refuse, tell, tell_number};
 use crate::role::Role;
-use memory_wanted::MemoryWanted;
+use memory_wanted::{MemoryWanted, resize, with_capacity};
 use pair_core::{Refusal, Shape};
 use pair_nodes::{PrimaryNode, StandbyNode};
 use script_player::boot::Boot;
 use script_player::player::image;
 use script_player::streams::{Failed, Sink};
 use std::alloc::Global;
+
+/// The bytes of a sector's record in a checkpoint: its number, and what it holds.
+const SECTOR_RECORD: usize = 4 + 512;
+
+/// The bytes that lists of pages take for each of them, while they grow.
+const PAGE_LISTS: usize = 64;
 
 /// The node boots the guest of a boot line: it is a primary that is alone.
 ///
@@ -36,6 +42,7 @@ pub fn boot<O: Sink>(alloc: Global, role: &mut Role, line: &Boot, out: &mut O) -
     match boot_guest(alloc, line) {
         Ok(primary) => {
             *role = Role::Primary(primary);
+            warm(alloc, line);
             tell(out, "booted")
         }
         Err(wanted) => out.refuse(wanted),
@@ -57,6 +64,15 @@ fn boot_guest(alloc: Global, line: &Boot) -> Result<PrimaryNode, MemoryWanted>
     };
     let image = image(alloc, line)?;
     PrimaryNode::boot(alloc, shape, image.as_slice())
+}
+
+/// Takes as much memory as `protect` fills, most of it with the disk's part of the full checkpoint, fills it, and gives it back. Where the C
+/// library keeps it, the guest, which stands in `protect`, needn't wait for the system to give out each page of it.
+fn warm(alloc: Global, line: &Boot) {
+    let bytes = SECTOR_RECORD * line.sectors as usize + PAGE_LISTS * line.pages as usize;
+    if let Ok(mut room) = with_capacity(alloc, bytes) {
+        let _ = resize(&mut room, bytes, 0_u8);
+    }
 }
 
 /// The node is a standby for a guest of this shape, and takes checkpoints of this generation.
