@@ -9,6 +9,7 @@ use script_player::check_stream::check_stream;
 use script_player::live::live;
 use script_player::sim::sim;
 use script_player::streams::{CheckedReader, CheckedWriter};
+use std::alloc::Global;
 use std::io::BufWriter;
 use std::process::ExitCode;
 use std::sync::Wait;
@@ -21,11 +22,23 @@ const REFUSED: u8 = 1;
 /// The exit status of a bad command line.
 const BAD_COMMAND_LINE: u8 = 2;
 
+/// The largest block, in bytes, that [`keep_freed`] can have the C library keep: it is to be smaller than glibc's
+/// `DEFAULT_MMAP_THRESHOLD_MAX`, 32 MiB, with what stands before it and in whole pages.
+const LARGEST_KEPT: usize = (32 << 20) - 2 * 4096;
+
 fn main(rt: HostRuntime) -> ExitCode {
+    keep_freed(rt.alloc());
     match run(&rt, &rt) {
         Ok(status) => ExitCode::from(status),
         Err(_) => ExitCode::from(REFUSED),
     }
+}
+
+/// Has the C library keep what is given back to it and give it out again, where it would go back to the system, which takes longer to give
+/// a page out than an epoch takes for it. glibc does so for blocks up to the size of the largest that was given back (mallopt(3),
+/// `M_MMAP_THRESHOLD`), so one is taken and given back. Nothing is written to it, so it costs no memory.
+fn keep_freed(alloc: Global) {
+    let _block = Vec::<u8>::with_capacity(alloc, LARGEST_KEPT);
 }
 
 /// Does what the command line asks for, if need be in threads. Answers the exit status.
