@@ -1,7 +1,7 @@
 -- Laws of handing out.
-use Rattle.std.proofs.Common.{◌≡◌, ℕ, zero, suc, ◌+◌, ◌-◌, ◌<◌, ◌≤◌, List, [], ◌∷◌, ◌++◌, length, take, drop, refl, sym, ap, ◌∙◌}
+use Rattle.std.proofs.Common.{◌≡◌, ℕ, zero, suc, ◌+◌, ◌-◌, ◌≤◌, List, [], ◌∷◌, ◌++◌, length, take, drop, refl, sym, ap, ◌∙◌}
 use Rattle.std.proofs.Common.{subst, arith}
-use Rattle.std.proofs.Common.{◌≢◌, map, append_assoc, Some}
+use Rattle.std.proofs.Common.{◌≢◌, map, append_assoc, None, Some}
 use mathlib.Core.Logic.{dite}
 use native.Mathlib.Decide.{ℕ_discrete}
 use Rattle.std.proofs.lemmas.List.{get_or-set_same, get_or-set_other, length-append, length-set, append-nil, map-append, take-append-drop}
@@ -18,21 +18,16 @@ starts : {A : Type 0} (n : ℕ) (xs : List A) (x : A) → slice_get xs 0 ≡ Som
 starts n [] x e = absurd (cc)
 starts n (y ∷ xs) x e = let same : y ≡ x = cc in ap (λ z. z ∷ take n xs) same
 
+-- a list that has none
+pub none-more : {A : Type 0} (n : ℕ) (xs : List A) → slice_get xs 0 ≡ None → take n xs ≡ []
+none-more zero [] e = refl
+none-more (suc n) [] e = refl
+none-more n (y ∷ xs) e = absurd (cc)
+
 -- a client's inbox once its first frame was handed out
 pub rest-of : (p : PortsState) (c : ℕ) → 1 ≤ c → c ≤ length p.inboxes
     → list_of (ports_after_admit p c).inboxes c ≡ drop 1 (list_of p.inboxes c)
 rest-of p c low high = get_or-set_same p.inboxes (c - 1) (drop 1 (list_of p.inboxes c)) [] (omega (arith, low, high))
-
-one-less : {A : Type 0} (xs : List A) → length xs ≤ length (drop 1 xs) + 1
-one-less [] = omega arith
-one-less (x ∷ xs) = omega arith
-
-pub still-there : (p : PortsState) (c count place : ℕ) → 1 ≤ c → c ≤ length p.inboxes → count ≤ place + length (list_of p.inboxes c)
-    → count ≤ (place + 1) + length (list_of (ports_after_admit p c).inboxes c)
-still-there p c count place low high few =
-    let same = ap length (rest-of p c low high) in
-    let less = one-less (list_of p.inboxes c) in
-    omega (arith, few, same, less)
 
 -- once one frame was handed out, the rest of so many are
 pub one-more : (h new : Handing) (c n : ℕ) (x : ℕ × Frame) → 1 ≤ c → c ≤ length h.ports.inboxes
@@ -54,16 +49,6 @@ one-entry j n =
     let d = length-append j.history (joined j.sealed ++ j.running) in
     let e = length-append (joined j.sealed) j.running in
     omega (arith, a, b, c, d, e)
-
--- so many of a list are as many as wanted where no more are there
-pub as_many : {A : Type 0} (n m : ℕ) (xs : List A) → n ≤ m → (n < m → length xs ≤ n) → take n xs ≡ take m xs
-as_many zero zero xs low all = refl
-as_many zero (suc m) [] low all = refl
-as_many zero (suc m) (x ∷ xs) low all = let none = all (omega arith) in absurd (omega (arith, none))
-as_many (suc n) zero xs low all = absurd (omega (arith, low))
-as_many (suc n) (suc m) [] low all = refl
-as_many (suc n) (suc m) (x ∷ xs) low all =
-    ap (λ t. x ∷ t) (as_many n m xs (omega (arith, low)) (λ k. let rest = all (omega (arith, k)) in omega (arith, rest)))
 
 -- WHAT IS HANDED OUT, whole
 

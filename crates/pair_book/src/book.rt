@@ -84,7 +84,7 @@ impl<P: Pair> Book<P> {
     pub fn next_number(&self) -> u64
         ensures { result ≡ self.now.protocol.window.to_cut }
     {
-        self.record.to_cut()
+        self.record.window().to_cut
     }
 
     /// How many checkpoints are pending.

@@ -54,7 +54,7 @@ impl<P: Pair> Book<P> {
     pub fn is_earlier(&self, checkpoint: &Checkpoint) -> bool
         ensures { result ≡ is_earlier self.now checkpoint.now }
     {
-        checkpoint.number() < self.record.to_commit()
+        checkpoint.number() < self.record.window().to_commit
     }
 
     /// Why the commit of what was read would be refused, as [`Book::commit`] says, but for want of memory; `None` where nothing refuses it.
@@ -83,7 +83,8 @@ impl<P: Pair> Book<P> {
         if self.is_earlier(checkpoint) {
             return None;
         }
-        if self.record.to_cut() <= self.record.to_commit() {
+        let window = self.record.window();
+        if window.to_cut <= window.to_commit {
             return Some(Refusal::Gap);
         }
         if self.is_word_full() {
@@ -99,7 +100,7 @@ impl<P: Pair> Book<P> {
     {
         Ack {
             generation: self.record.generation(),
-            number: self.record.to_commit() - 1,
+            number: self.record.window().to_commit - 1,
         }
     }
 

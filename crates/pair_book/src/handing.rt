@@ -12,27 +12,29 @@ use pair_record::PairRecord;
 /// How many frames of one client are handed out at once, at most.
 pub(crate) const FRAMES_AT_ONCE: usize = 4;
 
-/// So many frames of a client's inbox, the first first, go last into the list of those that were handed out, in the room that was made.
-fn hand_out_some(pair: &mut PairRecord, client: u64, count: usize, frames: &mut Vec<(u64, Frame)>)
+/// The first four frames of a client's inbox, or all, the first first, go last into the list of those that were handed out, in the room
+/// that was made.
+fn hand_out_first(pair: &mut PairRecord, client: u64, frames: &mut Vec<(u64, Frame)>)
     requires client { IsClient pair.old.ports client }
     requires inboxes { length pair.old.ports.inboxes ≡ length pair.old.ports.boxes }
-    requires there { count ≤ length (inbox_of pair.old.ports client) }
-    requires numbers { length (all_entries pair.old.protocol.journal) + count < number_limit }
-    requires arrival_room { count ≤ pair.old.arrival_room }
-    requires room { vec_len frames.old + count ≤ vec_capacity frames.old }
+    requires numbers { length (all_entries pair.old.protocol.journal) + 4 < number_limit }
+    requires arrival_room { 4 ≤ pair.old.arrival_room }
+    requires room { vec_len frames.old + 4 ≤ vec_capacity frames.old }
     requires frames { All (λ x. IsFrame x.1) frames.old.items }
     ensures done { handing pair.new.protocol pair.new.ports frames.new.items
-        ≡ handed_all client (take count (inbox_of pair.old.ports client)) (handing pair.old.protocol pair.old.ports frames.old.items) }
+        ≡ handed_all client (take 4 (inbox_of pair.old.ports client)) (handing pair.old.protocol pair.old.ports frames.old.items) }
     ensures boxes { length pair.new.ports.boxes ≡ length pair.old.ports.boxes }
     ensures inboxes { length pair.new.ports.inboxes ≡ length pair.new.ports.boxes }
-    ensures numbers { length (all_entries pair.new.protocol.journal) ≡ length (all_entries pair.old.protocol.journal) + count }
-    ensures arrival_room { pair.old.arrival_room ≤ pair.new.arrival_room + count }
-    ensures len { vec_len frames.new ≡ vec_len frames.old + count }
+    ensures numbers { length (all_entries pair.new.protocol.journal) ≤ length (all_entries pair.old.protocol.journal) + 4 }
+    ensures arrival_room { pair.old.arrival_room ≤ pair.new.arrival_room + 4 }
+    ensures len { vec_len frames.new ≤ vec_len frames.old + 4 }
     ensures room { vec_capacity frames.old ≤ vec_capacity frames.new }
     ensures frames { All (λ x. IsFrame x.1) frames.new.items }
 {
-    for place in 0..count {
-        let frame = pair.hand_out(client);
+    for place in 0..FRAMES_AT_ONCE {
+        let Some(frame) = pair.hand_out(client) else {
+            return;
+        };
         frames.push(frame).unwrap();
     }
 }
@@ -51,7 +53,6 @@ pub(crate) fn hand_out(pair: &mut PairRecord, frames: &mut Vec<(u64, Frame)>)
 {
     let clients = pair.clients();
     for client in 1..clients + 1 {
-        let count = pair.inbox_len(client).min(FRAMES_AT_ONCE);
-        hand_out_some(pair, client, count, frames);
+        hand_out_first(pair, client, frames);
     }
 }

@@ -42,7 +42,7 @@ impl<P: Pair> Book<P> {
     {
         match self.record.mode() {
             Mode::Alone => Kind::Nothing,
-            Mode::Filling if self.record.to_cut() == 0 => Kind::Full,
+            Mode::Filling if self.record.window().to_cut == 0 => Kind::Full,
             Mode::Filling | Mode::Paired | Mode::Stopped => Kind::Delta,
         }
     }
@@ -63,7 +63,7 @@ impl<P: Pair> Book<P> {
         }
         let kind = self.kind_wanted();
         let number = match kind {
-            Kind::Delta => self.record.to_cut(),
+            Kind::Delta => self.record.window().to_cut,
             Kind::Nothing | Kind::Full => 0,
         };
         Ok(Want {

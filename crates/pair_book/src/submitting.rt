@@ -196,7 +196,7 @@ impl<P: Pair> Book<P> {
             Prepared::Checkpoint(_) if alone => Some(Refusal::NotPaired),
             Prepared::Checkpoint(packet) => {
                 if packet.generation() == self.record.generation()
-                    && packet.number() == self.record.to_cut()
+                    && packet.number() == self.record.window().to_cut
                 {
                     None
                 } else {

@@ -3,7 +3,7 @@ use Rattle.std.proofs.Common.{◌≡◌, ◌∙◌, refl, sym, ap, subst, List, 
 use Rattle.std.specs.Prelude.{IfOk, OnOk}
 use Rattle.memory_wanted.specs.{Wanted.wanted, declared.MemoryWanted.MemoryWanted}
 use Rattle.frame_ports.specs.Ports.{PortsState}
-use Rattle.pair_record.specs.{declared.event.Reply.Reply, Protocol.{Record, Outcome, Row, first_refusal, Refuses, RefusesDelivery}, Record.RecordState}
+use Rattle.pair_record.specs.{declared.event.Reply.Reply, Protocol.{Record, Outcome, Row, first_refusal, RefusesDelivery}, Record.RecordState}
 use Rattle.pair_record.specs.{declared.event.Refusal.Refusal, declared.event.Refusal.TheVariants.NoMemory}
 use Rattle.pair_record.specs.{declared.event.Event.Event, Protocol.outcome}
 use Rattle.pair_record.specs.declared.event.Reply.TheVariants as replies
@@ -22,12 +22,7 @@ pub on_err_so : {A : Type 0} (o : Result A MemoryWanted) (P Q : Type 0) → (P �
 on_err_so (Ok x) P Q f p = tt
 on_err_so (Err e) P Q f p = f p
 
--- a refusal that isn't for want of memory is of the first row that holds
-pub named : (rows : List Row) (wants : Type 0) (why : Refusal) → ((m : MemoryWanted) → why ≡ NoMemory m → ⊥) → Refuses rows wants why
-    → first_refusal rows ≡ Some why
-named rows wants (NoMemory m) other h = absurd (other m refl)
-named rows wants why other h = h
-
+-- a refusal of a delivery that isn't for want of memory is of the first row that holds
 pub named_delivery : (rows : List Row) (why : Refusal) → ((m : MemoryWanted) → why ≡ NoMemory m → ⊥) → RefusesDelivery rows why
     → first_refusal rows ≡ Some why
 named_delivery rows (NoMemory m) other h = absurd (other m refl)

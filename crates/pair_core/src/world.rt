@@ -304,7 +304,7 @@ impl World {
         }
         let text = self
             .nodes
-            .checkpoint(self.record.generation(), self.record.to_cut())?;
+            .checkpoint(self.record.generation(), self.record.window().to_cut)?;
         let reply = self.record.cut(self.nodes.outbox())?;
         self.nodes.seal(text);
         Ok(reply)
@@ -316,12 +316,13 @@ impl World {
         ensures { DoesAllowed None events.Send result self.old self.new }
     {
         self.record.keep();
+        let window = self.record.window();
         self.lines.send(
             self.record.generation(),
-            self.record.to_acknowledge(),
-            self.record.to_cut(),
+            window.to_acknowledge,
+            window.to_cut,
         )?;
-        Ok(self.record.send())
+        Ok(Reply::Sent(self.record.pending()))
     }
 
     /// The backup gets a packet.
@@ -337,12 +338,15 @@ impl World {
             return Ok(Reply::Refused(why));
         }
         let generation = self.record.generation();
-        let number = self.record.to_commit();
+        let number = self.record.window().to_commit;
         self.lines.reserve_acknowledgement()?;
         if packet.number < number {
-            let reply = self.record.acknowledge_again();
-            self.lines.acknowledge(generation, number - 1);
-            return Ok(reply);
+            let last = number - 1;
+            self.lines.acknowledge(generation, last);
+            return Ok(Reply::Again {
+                generation,
+                number: last,
+            });
         }
         let checkpoint = self.nodes.oldest()?;
         let reply = match self.record.commit() {

@@ -11,7 +11,7 @@ use Rattle.pair_record.specs.declared.event.Event.TheVariants.{Admit, Take, Lose
 use Rattle.pair_record.specs.declared.event.Refusal.TheVariants.{NoClient, Stopped, Exhausted, BadFrame, Full}
 use Rattle.pair_record.specs.{Modes.{is_alone, is_stopped}, Record.{IsRecord, AreNumbered, ports_after_admit, ports_after_take}}
 use Rattle.pair_record.specs.Record.{ports_after_lose_in, ports_after_lose_out}
-use Rattle.pair_record.specs.Protocol.{Record, Outcome, first_refusal, admit_done, take_done, loss_done, arrival_refusals, admit_refusals}
+use Rattle.pair_record.specs.Protocol.{Record, Outcome, first_refusal, admit_done, take_done, loss_done, admit_refusals, admit_of}
 use Rattle.pair_record.specs.Protocol.{take_refusals, loss_refusals, loss_of, lost_in, lost_out, is_among, outcome}
 use Rattle.pair_record.specs.Protocol.{deliver_done, deliver_refusals, delivery_refused, is_bad_length, unless}
 use Rattle.std.proofs.lemmas.Bool.{lt-leb, le-leb}
@@ -19,7 +19,8 @@ use Rattle.pair_record.specs.ClientActs.{if_there}
 use Rattle.pair_core.specs.{Invariant.Holds, Lines.{got, lines_after}, Nodes.with_arrival, Pair.Pair}
 use Rattle.pair_core.specs.laws.{AllLands.admitted_holds, ClientEvents.{take_holds, lose_in_holds, lose_out_holds, deliver_holds}}
 use Rattle.pair_core.specs.laws.ClientEvents.{full_holds}
-use Rattle.pair_core.specs.laws.{Losses.{lose_in_sees_the_pair, lose_out_sees_the_pair, loss_is_done}, Outcomes.{admit_is_done, delivery_is_done, delivery_is_refused, done_if_none_refuses}}
+use Rattle.pair_core.specs.laws.Losses.{lose_in_by_table, lose_out_by_table}
+use Rattle.pair_core.specs.laws.Outcomes.{admit_by_table, done_by_table, delivery_is_done, delivery_is_refused, done_if_none_refuses}
 use Rattle.pair_nodes.specs.Matching.{Fits, HasRoom, Kept, Matches, IsServed, network_of, site_of}
 use Rattle.pair_history.specs.HistoryState.{HistoryState, sent_along}
 use Rattle.pair_nodes.proofs.Outs.{come-frames, quiet-frames}
@@ -159,7 +160,7 @@ module _ (w : Pair) (kept texts : List (List ℕ)) (acks : List Packet) (out : O
       (LoseOut c place) done.0
       (in_mode w (LoseOut c place) None done refl
       (ap (loss_of r) (sym some)
-      ∙ loss_is_done w (LoseOut c place) c (lost_out c (list_of w.ports.boxes c) place) (lose_out_sees_the_pair w h.pair.holds c place)
+      ∙ done_by_table (lose_out_by_table w h.pair.holds c place)
       (no_row (lost_out c (list_of w.ports.boxes c) place) e some)))
       refl refl
 
@@ -175,7 +176,7 @@ module _ (w : Pair) (kept texts : List (List ℕ)) (acks : List Packet) (out : O
       (LoseIn c place) done.0
       (in_mode w (LoseIn c place) None done refl
       (ap (loss_of r) (sym some)
-      ∙ loss_is_done w (LoseIn c place) c (lost_in (list_of w.ports.inboxes c) place) (lose_in_sees_the_pair w h.pair.holds c place)
+      ∙ done_by_table (lose_in_by_table w h.pair.holds c place)
       (no_row (lost_in (list_of w.ports.inboxes c) place) e some)))
       refl refl
 
@@ -257,9 +258,9 @@ module _ (w : Pair) (kept texts : List (List ℕ)) (acks : List Packet) (out : O
   come_served =
       let r = w.protocol.state in
       let inbox = list_of w.ports.inboxes c in
-      let nobody : None ≡ first_refusal (arrival_refusals (length w.ports.boxes) r c) =
-      sym (λ i. cond (among c (length w.ports.boxes) low high i) (Some NoClient) (cond (runs i) (Some Stopped) None)) in
-      let row : None ≡ first_refusal (admit_refusals r) = sym (λ i. cond (lt-leb number_limit _ room i) (Some Exhausted) None) in
+      let free : first_refusal (admit_refusals (length w.ports.boxes) r c (slice_get inbox 0)) ≡ None =
+      λ i. first_refusal ((among c (length w.ports.boxes) low high i, NoClient) ∷ (runs i, Stopped)
+      ∷ if_there (first i) ((lt-leb number_limit (length (all_entries r.journal) + 1) room i, Exhausted) ∷ [])) in
       record {
         events = Admit c ∷ [];
         replies = done.0 ∷ [];
@@ -267,18 +268,13 @@ module _ (w : Pair) (kept texts : List (List ℕ)) (acks : List Packet) (out : O
         start = refl;
         run =
             one_event w come (Admit c) done.0 h.pair come_kept refl (
-              inl (in_mode w (Admit c) None done refl
-                  (admit_is_done w h.pair.holds c None nobody refl (λ e. absurd (none_first inbox n f first e)) None row n f first refl)),
+              inl (in_mode w (Admit c) None done refl (ap (admit_of r) (sym first) ∙ done_by_table (admit_by_table w h.pair.holds c) free)),
               refl,
             );
         matches = matches_so (come_site (site_of w kept texts acks out came) c f) come kept texts acks out came refl come_fits;
         counts = let c = moves_counts (is_alone r.mode) r.journal (Arrive n ∷ []) in omega arith;
         told = refl;
       }
-    where
-      none_first : (xs : List (ℕ × Frame)) (n : ℕ) (f : Frame) → slice_get xs 0 ≡ Some (n, f) → length xs ≡ 0 → ⊥
-      none_first [] n f e l = cc
-      none_first (x ∷ xs) n f e l = omega arith
 
 pub come_matches : (s t : Site) (w : Pair) (c most : ℕ) → Matches s w → HasRoom w 1 → Premises s (comes c) most → Happens s (comes c) t
     → IsServed w 1 [] t

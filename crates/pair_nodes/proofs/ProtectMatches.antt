@@ -14,7 +14,7 @@ use Rattle.pair_record.specs.laws.Records.{protect_record}
 use Rattle.std.proofs.lemmas.Bool.{lt-leb}
 use Rattle.pair_core.specs.{Lines.packet, Nodes.{left_alone, with_protected}, Pair.Pair}
 use Rattle.pair_core.specs.laws.{AllLands.all_landed_holds, Consistent.{keeps_nothing, some_cut}, Lines.below_at}
-use Rattle.pair_core.specs.laws.Outcomes.{done_if_none_refuses, fail_backup_sees_the_pair}
+use Rattle.pair_core.specs.laws.Outcomes.{done_if_none_refuses, done_by_table, fail_backup_by_table}
 use Rattle.pair_core.specs.laws.Protected.{protect_holds}
 use Rattle.pair_nodes.specs.Matching.{Fits, HasRoom, Kept, Matches, IsServed, held_of, sent_of, site_of, primary_of, standby_of}
 use Rattle.checkpoint_stream.specs.Readings.{begun}
@@ -188,8 +188,7 @@ module _ (w : Pair) (kept texts : List (List ℕ)) (acks : List Packet) (out : O
             let free : first_refusal (fail_backup_refusals w.ports.boxes outbox r) ≡ None =
             ap (λ (t : Bool). cond t (Some Exhausted) None) (lt-leb number_limit _ room) in
             one_event w left FailBackup done.0 h.pair alone_kept refl (
-              inl (in_mode w FailBackup None done (both_fail r.mode runs two)
-                  (done_if_none_refuses r (fail_backup_refusals w.ports.boxes outbox r) done free ∙ fail_backup_sees_the_pair w h.pair.holds)),
+              inl (in_mode w FailBackup None done (both_fail r.mode runs two) (done_by_table (fail_backup_by_table w h.pair.holds) free)),
               refl,
             );
         matches = matches_so (alone_site (site_of w kept texts acks out came)) left [] texts acks

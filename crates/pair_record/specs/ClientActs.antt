@@ -14,16 +14,18 @@ use Rattle.pair_record.specs.Modes.{is_stopped, is_alone}
 use Rattle.pair_record.specs.Tables.{Record, Sight, Outcome, Row, first_refusal, refused, or_else, unless, exhausts}
 use Rattle.pair_record.specs.Tables.{entry_refusals, is_among}
 
--- ADMIT
+-- these rows, if there is what they are about
+abbrev pub if_there : {A : Type 0} → Option A → List Row → List Row
+if_there None rows = []
+if_there (Some x) rows = rows
 
-abbrev pub admit_refusals : Record → List Row
-admit_refusals r = (exhausts r 1, Exhausted) ∷ []
+-- ADMIT: of so many clients, where this is the first frame of client c's inbox
 
--- whose frame can arrive at all
-abbrev pub arrival_refusals : ℕ → Record → ℕ → List Row
-arrival_refusals count r c = (not (is_among c count), NoClient) ∷ (is_stopped r.mode, Stopped) ∷ []
+abbrev pub admit_refusals : ℕ → Record → ℕ → Option (ℕ × Frame) → List Row
+admit_refusals count r c first =
+    (not (is_among c count), NoClient) ∷ (is_stopped r.mode, Stopped) ∷ if_there first ((exhausts r 1, Exhausted) ∷ [])
 
--- the first frame of the client's inbox arrives at the guest: that goes into the epoch that runs, or at once into the history
+-- it arrives at the guest: that goes into the epoch that runs, or at once into the history
 abbrev pub arrival_done : Bool → Record → ℕ → Outcome
 arrival_done at_once r n = (replies.Admitted n, record r { journal = with_moves at_once r.journal (Arrive n ∷ []) })
 
@@ -31,12 +33,13 @@ arrival_done at_once r n = (replies.Admitted n, record r { journal = with_moves 
 abbrev pub admit_done : Record → ℕ → Outcome
 admit_done r n = arrival_done (is_alone r.mode) r n
 
-abbrev pub admit_first : Record → Option (ℕ × Frame) → Outcome
-admit_first r None = (replies.Empty, r)
-admit_first r (Some first) = unless r (admit_refusals r) (admit_done r first.0)
+-- if there is one
+abbrev pub admit_of : Record → Option (ℕ × Frame) → Outcome
+admit_of r None = (replies.Empty, r)
+admit_of r (Some first) = admit_done r first.0
 
 abbrev pub on_admit : Sight → Record → ℕ → Outcome
-on_admit s r c = unless r (arrival_refusals (length s.boxes) r c) (admit_first r (slice_get (s.inbox c) 0))
+on_admit s r c = let first = slice_get (s.inbox c) 0 in unless r (admit_refusals (length s.boxes) r c first) (admit_of r first)
 
 -- DELIVER: of so many clients, where these frames of client c wait and the next frame gets this number
 
@@ -90,11 +93,7 @@ on_take s r c = unless r (take_refusals false (length s.boxes) r c) (take_done s
 
 -- LOSEIN, LOSEOUT: the line drops a frame that a client delivered, or one that lies in its box
 
--- these rows, if a frame is there, whose loss this entry tells
-abbrev pub if_there : Option Entry → List Row → List Row
-if_there None rows = []
-if_there (Some e) rows = rows
-
+-- where this entry tells the loss of the frame, if one is there
 abbrev pub loss_refusals : Bool → ℕ → Record → ℕ → Option Entry → List Row
 loss_refusals word_full count r c lost = (not (is_among c count), NoClient) ∷ if_there lost (entry_refusals word_full r)
 

@@ -18,8 +18,7 @@ pub use Rattle.pair_record.specs.GuestActs.{step_room, step_refusals, step_entri
 pub use Rattle.pair_record.specs.GuestActs.{seal_done, cut_done, on_cut}
 pub use Rattle.pair_record.specs.BackupActs.{send_done, on_send, backup_refusals, again_done, commit_done, backup_done, backup_outcome}
 pub use Rattle.pair_record.specs.BackupActs.{on_backup_get, let_go, ack_refusals, acknowledge_refusals, ack_done, ack_outcome, on_ack_get}
-pub use Rattle.pair_record.specs.ClientActs.{admit_refusals, arrival_refusals, arrival_done, admit_done}
-pub use Rattle.pair_record.specs.ClientActs.{admit_first, on_admit}
+pub use Rattle.pair_record.specs.ClientActs.{if_there, admit_refusals, arrival_done, admit_done, admit_of, on_admit}
 pub use Rattle.pair_record.specs.ClientActs.{is_bad_length, deliver_refusals, RefusesDelivery, delivery_refused, deliver_done, on_deliver}
 pub use Rattle.pair_record.specs.ClientActs.{take_refusals}
 pub use Rattle.pair_record.specs.ClientActs.{take_done, on_take, loss_refusals, loss_done, loss_of, loss_reply, on_loss, lost_in, lost_out}

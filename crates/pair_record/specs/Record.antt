@@ -35,7 +35,11 @@ abbrev pub given : Bool → Frame → Option Frame
 given true frame = Some frame
 given false frame = None
 
--- the ports after a loss: these, if the frame was there
+-- the ports after an arrival, and after a loss: these, if the frame was there
+abbrev pub ports_if_came : Option (ℕ × Frame) → PortsState → PortsState → PortsState
+ports_if_came None after p = p
+ports_if_came (Some first) after p = after
+
 abbrev pub ports_if_lost : Bool → PortsState → PortsState → PortsState
 ports_if_lost true after p = after
 ports_if_lost false after p = p

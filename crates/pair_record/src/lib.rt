@@ -17,3 +17,4 @@ pub use limits::limits_are_the_rules;
 pub use modes::{is_alone, is_stopped, mode_refusal};
 pub use pair_history::{Entry, Frame, History};
 pub use record::PairRecord;
+pub use window::Window;

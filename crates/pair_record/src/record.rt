@@ -8,8 +8,8 @@ ghost use Rattle.pair_history.specs.Entries.{Ran};
 ghost use Rattle.pair_history.specs.Journal.{all_entries, with_running};
 ghost use Rattle.pair_record.specs.Modes.{is_stopped as stopped, is_alone as alone};
 ghost use Rattle.pair_record.specs.Protocol.{exhausts, frames_run_out as runs_out, is_among, first_refusal};
-ghost use Rattle.pair_record.specs.Protocol.{step_refusals, cut_refusals, cut_done, send_done};
-ghost use Rattle.pair_record.specs.Protocol.{backup_refusals, again_done, commit_done, acknowledge_refusals, ack_done, let_go};
+ghost use Rattle.pair_record.specs.Protocol.{step_refusals, cut_refusals, cut_done};
+ghost use Rattle.pair_record.specs.Protocol.{backup_refusals, commit_done, acknowledge_refusals, ack_done, let_go};
 ghost use Rattle.pair_record.specs.Protocol.{Refuses, fail_primary_refusal, fail_primary_done};
 ghost use Rattle.pair_record.specs.declared.event.Reply.TheVariants as replies;
 ghost use Rattle.pair_record.specs.Record.{IsRecord, IsAsBefore, AreNumbered, start_record, ports_after_ack};
@@ -150,25 +150,11 @@ impl PairRecord {
         self.window.to_cut - self.window.to_acknowledge
     }
 
-    /// The number of the next checkpoint to be cut.
-    pub fn to_cut(&self) -> u64
-        ensures { result ≡ self.now.protocol.window.to_cut }
+    /// The numbers of the next checkpoint to be cut, to be committed and to be acknowledged.
+    pub fn window(&self) -> Window
+        ensures { result ≡ self.now.protocol.window }
     {
-        self.window.to_cut
-    }
-
-    /// The number of the next checkpoint to be acknowledged.
-    pub fn to_acknowledge(&self) -> u64
-        ensures { result ≡ self.now.protocol.window.to_acknowledge }
-    {
-        self.window.to_acknowledge
-    }
-
-    /// The number of the next checkpoint to be committed.
-    pub fn to_commit(&self) -> u64
-        ensures { result ≡ self.now.protocol.window.to_commit }
-    {
-        self.window.to_commit
+        self.window
     }
 
     /// How many of these steps the history has numbers for: none where the primary has stopped.
@@ -272,13 +258,6 @@ impl PairRecord {
         })
     }
 
-    /// What is answered where one packet for each pending checkpoint is sent.
-    pub fn send(&self) -> Reply
-        ensures { (result, self.now.protocol) ≡ send_done self.now.protocol }
-    {
-        Reply::Sent(self.pending())
-    }
-
     /// Why the backup refuses a packet.
     pub fn backup_refusal(&self, packet: Packet) -> Option<Refusal>
         ensures refusal { result ≡ first_refusal (backup_refusals self.now.protocol packet) }
@@ -291,17 +270,6 @@ impl PairRecord {
             Some(Refusal::Gap)
         } else {
             None
-        }
-    }
-
-    /// What is answered where the acknowledgement of the last committed checkpoint is sent once more.
-    pub fn acknowledge_again(&self) -> Reply
-        requires { 0 < self.now.protocol.window.to_commit }
-        ensures { (result, self.now.protocol) ≡ again_done self.now.protocol }
-    {
-        Reply::Again {
-            generation: self.generation,
-            number: self.window.to_commit - 1,
         }
     }
 

@@ -26,14 +26,15 @@ fn deliver(rt: &impl Abort, record: &mut PairRecord) -> u64 {
 
 /// The first frame of client 1's inbox, with its number.
 fn handed_out(rt: &impl Abort, record: &mut PairRecord) -> (u64, Frame) {
-    if record.arrival_refusal(1).is_some() {
-        panic!(rt; "there is no client");
-    }
-    if record.inbox_len(1) == 0 || record.admit_refusal().is_some() {
-        panic!(rt; "there is no frame");
+    record.keep();
+    if record.clients() != 1 || record.is_exhausted_by(1) {
+        panic!(rt; "no frame can be handed out");
     }
     made(rt, record.reserve_arrivals(1));
-    record.hand_out(1)
+    match record.hand_out(1) {
+        Some(first) => first,
+        None => panic!(rt; "there is no frame"),
+    }
 }
 
 /// The frame is client 1's.
@@ -120,7 +121,7 @@ fn protect(rt: &impl Abort, record: &mut PairRecord) -> Reply {
 
 /// Its full checkpoint is sealed, after an epoch in which nothing happened.
 fn seal_full(rt: &impl Abort, record: &mut PairRecord) -> Reply {
-    if !matches!(record.mode(), Mode::Filling) || record.to_cut() != 0 {
+    if !matches!(record.mode(), Mode::Filling) || record.window().to_cut != 0 {
         panic!(rt; "the full checkpoint isn't next");
     }
     if record.enter_epoch_refusal(0, &[]).is_some() {
@@ -175,7 +176,8 @@ fn seal_answer(rt: &impl Abort, record: &mut PairRecord) {
 
 /// The next checkpoint is committed.
 fn commit(rt: &impl Abort, record: &mut PairRecord) {
-    if record.to_commit() >= record.to_cut() {
+    let window = record.window();
+    if window.to_commit >= window.to_cut {
         panic!(rt; "there is nothing to commit");
     }
     made(rt, record.commit());

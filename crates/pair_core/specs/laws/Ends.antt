@@ -19,7 +19,7 @@ use Rattle.pair_core.specs.Lines.{Lines, got}
 use Rattle.pair_record.specs.Modes.{is_alone, mode_refusal, backup_refusal, change_refusal}
 use Rattle.pair_record.specs.Protocol.{Record, Outcome, allowed, outcome, or_else, refused, shown_at, live_at, outbox_of, step_done}
 use Rattle.pair_record.specs.Protocol.{step_entries, cut_done, send_done, again_done, commit_done, backup_outcome, let_go, ack_done}
-use Rattle.pair_record.specs.Protocol.{ack_outcome, admit_first, admit_done, delivery_refused, deliver_done, take_done, on_loss, loss_done}
+use Rattle.pair_record.specs.Protocol.{unless, ack_outcome, admit_refusals, admit_of, admit_done, delivery_refused, deliver_done, take_done, on_loss, loss_done}
 use Rattle.pair_record.specs.Protocol.{fail_primary_done, all_held, fail_backup_done, live_entries, go_live_done, protect_done}
 use Rattle.pair_record.specs.laws.Tables.{passed, same_generation}
 use Rattle.failover.specs.declared.change.Change.TheVariants as changes
@@ -132,13 +132,13 @@ module _ (start : HistoryState) (r : Record) (l : Lines) where
               refl,
               e.acknowledge k p is (same_generation p.generation r.generation (passed _ _ _ none).0),
             ))
-    allowed_end (Admit c) goes = by_rows (Admit c) (λ why. tt) _ _ (λ none. by_first (slice_get (inbox c) 0))
+    allowed_end (Admit c) goes = by_first (slice_get (inbox c) 0)
       where
         by_mode : (n : ℕ) (alone : Bool) → is_alone r.mode ≡ alone → Ended (Admit c) (admit_done r n)
         by_mode n alone is = (at_once alone (Arrive n ∷ []), moved alone is (λ t. Arrive n ∷ []), e.admit c n alone is)
 
-        by_first : (o : Option (ℕ × Frame)) → Ended (Admit c) (admit_first r o)
-        by_first None = stays (Admit c) (replies.Empty, r) refl (e.empty c 0).0
+        by_first : (o : Option (ℕ × Frame)) → Ended (Admit c) (unless r (admit_refusals (length boxes) r c o) (admit_of r o))
+        by_first None = by_rows (Admit c) (λ why. tt) _ _ (λ none. stays (Admit c) (replies.Empty, r) refl (e.empty c 0).0)
         by_first (Some x) = by_rows (Admit c) (λ why. tt) _ _ (λ none. by_mode x.0 (is_alone r.mode) refl)
     allowed_end (Deliver c bytes) goes =
         by_table (Ended (Deliver c bytes)) _ (delivery_refused r c (frame_of bytes)) _ refuses (λ none. (_, refl, e.deliver c bytes))

@@ -1,17 +1,20 @@
 -- What the protocol answers: what an event looks at is what the world has, and its table of refusals decides.
-use Rattle.std.proofs.Common.{rules, ◌≡◌, ℕ, ◌≤◌, List, [], ◌∷◌, length, refl, sym, ap, ◌∙◌, arith, Bool, true, false, Option, None, Some, ◌⊎◌, inl, inr}
-use Rattle.std.specs.Prelude.{slice_get, IfSome, nat_le, not}
+use Rattle.std.proofs.Common.{rules, ◌≡◌, ℕ, ◌≤◌, List, [], ◌∷◌, length, refl, sym, ap, ◌∙◌, subst, arith, Bool, true, false, Option, None, Some, ◌⊎◌, inl, inr}
+use Rattle.std.specs.Prelude.{slice_get, IfSome, IsSome, nat_le, not, ⊤}
+use Rattle.memory_wanted.specs.declared.MemoryWanted.{MemoryWanted}
 use Rattle.guest_machine.specs.Step.{next, sent}
 use Rattle.frame_ports.specs.{Lands.list_of, Limits.{inbox_frames, number_limit}}
 use Rattle.pair_history.specs.{Entries.Frame, HistoryState.inbox_of}
-use Rattle.pair_record.specs.{declared.event.Event.TheVariants.{Cut, Admit, FailBackup}, declared.event.Refusal.Refusal}
-use Rattle.pair_record.specs.declared.event.Refusal.TheVariants.{Full, BadFrame, NoClient, Stopped, Exhausted}
+use Rattle.pair_record.specs.{declared.event.Event.{Event, TheVariants.{Cut, Admit, FailBackup}}, declared.event.Refusal.Refusal}
+use Rattle.pair_record.specs.declared.event.Refusal.TheVariants.{Full, BadFrame, NoClient, Stopped, Exhausted, NoMemory}
+use Rattle.pair_record.specs.declared.event.Packet.{Packet}
 use Rattle.pair_core.specs.Invariant.{Holds}
 use Rattle.pair_record.specs.Modes.{is_stopped}
 use Rattle.pair_core.specs.Pair.{Pair, shown_state, live_state, AfterRefusal}
 use Rattle.pair_record.specs.Protocol.{Record, Sight, Outcome, Row, first_refusal, or_else, unless, refused, exhausts, is_among, sight}
-use Rattle.pair_record.specs.Protocol.{allowed, on_step, step_outcome, cut_refusals, cut_done, on_cut, on_fail_backup, admit_refusals}
-use Rattle.pair_record.specs.Protocol.{arrival_refusals, admit_first, admit_done, on_admit, is_bad_length, deliver_refusals}
+use Rattle.pair_record.specs.Protocol.{allowed, on_step, step_outcome, cut_refusals, cut_done, on_cut, Refuses, if_there}
+use Rattle.pair_record.specs.Protocol.{on_fail_backup, fail_backup_refusals, fail_backup_done}
+use Rattle.pair_record.specs.Protocol.{admit_refusals, admit_of, on_admit, is_bad_length, deliver_refusals}
 use Rattle.pair_record.specs.{Protocol.{delivery_refused, deliver_done, on_deliver}, Record.owed_to}
 use Rattle.pair_core.specs.Answering.{MayWantMemory}
 use Rattle.pair_core.specs.laws.Consistent.{live_is, live_waiting, outbox_is}
@@ -31,14 +34,34 @@ module _ (r : Record) (rows : List Row) (done : Outcome) where
   refused_if_one_refuses out None e f = tt
   refused_if_one_refuses out (Some why) e f = refused_by_the_first why (sym e) ∙ f
 
--- an empty list has no first element, another has one
-pub no_first : {A : Type 0} (xs : List A) → length xs ≡ 0 → slice_get xs 0 ≡ None
-no_first [] e = refl
-no_first (x ∷ xs) e = absurd (omega arith)
+-- AN EVENT BY A TABLE, as a call of the record answers it: these rows refuse it, or it is done so; it may want memory where `wants` holds
+pub record ByTable (w : Pair) (packet : Option Packet) (event : Event) (rows : List Row) (wants : Type 0) (done : Outcome) : Type 0 where
+  pub sees : unless w.protocol.state rows done ≡ allowed w.start w.protocol.state packet event
+  pub may : wants → MayWantMemory w.protocol.state done
 
-pub some_first : {A : Type 0} (xs : List A) → (length xs ≡ 0 → ⊥) → (x : A) × (slice_get xs 0 ≡ Some x)
-some_first [] h = absurd (h refl)
-some_first (x ∷ xs) h = (x, refl)
+-- a refusal that isn't for want of memory is of the first row that holds
+named : (rows : List Row) (wants : Type 0) (why : Refusal) → ((m : MemoryWanted) → why ≡ NoMemory m → ⊥) → Refuses rows wants why
+    → first_refusal rows ≡ Some why
+named rows wants (NoMemory m) other h = absurd (other m refl)
+named rows wants why other h = h
+
+module _ {w : Pair} {packet : Option Packet} {event : Event} {rows : List Row} {wants : Type 0} {done : Outcome}
+    (t : ByTable w packet event rows wants done) where
+  pub done_by_table : first_refusal rows ≡ None → done ≡ allowed w.start w.protocol.state packet event
+  done_by_table free = done_if_none_refuses w.protocol.state rows done free ∙ t.sees
+
+  pub refused_by_table : (why said : Refusal) (now : Record) → Refuses rows wants why → said ≡ why
+      → ((m : MemoryWanted) → why ≡ NoMemory m → ⊥) → now ≡ w.protocol.state
+      → (replies.Refused said, now) ≡ allowed w.start w.protocol.state packet event
+  refused_by_table why said now h same other stays =
+      (λ i. (replies.Refused (same i), stays i))
+      ∙ refused_by_the_first w.protocol.state rows done why (named rows wants why other h)
+      ∙ t.sees
+
+  pub wanted_by_table : (why : Refusal) (m : MemoryWanted) → Refuses rows wants why → why ≡ NoMemory m
+      → MayWantMemory w.protocol.state (allowed w.start w.protocol.state packet event)
+  wanted_by_table why m h memory =
+      let k = rw memory at h in subst (MayWantMemory w.protocol.state) (done_by_table k.0) (t.may k.1)
 
 -- WHAT AN EVENT LOOKS AT, as the machines and the ports of a pair say it
 
@@ -61,8 +84,13 @@ module _ (w : Pair) (h : Holds w) where
   pub cut_sees_the_pair : on_cut (seen w) w.protocol.state ≡ allowed w.start w.protocol.state None Cut
   cut_sees_the_pair = ap (λ (fs : List Frame). unless w.protocol.state (cut_refusals w.protocol.state) (cut_done fs w.protocol.state)) (sym (outbox_is w h))
 
-  pub fail_backup_sees_the_pair : on_fail_backup (seen w) w.protocol.state ≡ allowed w.start w.protocol.state None FailBackup
+  fail_backup_sees_the_pair : on_fail_backup (seen w) w.protocol.state ≡ allowed w.start w.protocol.state None FailBackup
   fail_backup_sees_the_pair = search (arith, rules, outbox_is)
+
+  pub fail_backup_by_table : ByTable w None FailBackup
+      (fail_backup_refusals w.ports.boxes w.nodes.live.outbox w.protocol.state) ⊤
+      (fail_backup_done w.ports.boxes w.nodes.live.outbox w.protocol.state)
+  fail_backup_by_table = record { sees = fail_backup_sees_the_pair; may = λ _. tt }
 
   pub inbox_is : (c : ℕ) → 1 ≤ c → c ≤ length w.ports.boxes → list_of w.ports.inboxes c ≡ inbox_of c (live_state w).waiting
   inbox_is c low high = h.accords.clients.inboxes c low high ∙ ap (inbox_of c) (sym (live_waiting w h))
@@ -73,16 +101,19 @@ module _ (w : Pair) (h : Holds w) where
       by_test (not (is_among c (length w.ports.boxes))) refl
       ∙ ap (λ (b : List (List Frame)). on_admit (record (sight w.start w.protocol.state) { boxes = b }) w.protocol.state c) h.accords.clients.boxes
     where
-      rows : Bool → List Row
-      rows t = (t, NoClient) ∷ (is_stopped w.protocol.state.mode, Stopped) ∷ []
+      at_rows : Bool → List (ℕ × Frame) → Outcome
+      at_rows t inbox =
+          let first = slice_get inbox 0 in
+          unless w.protocol.state
+          ((t, NoClient) ∷ (is_stopped w.protocol.state.mode, Stopped) ∷ if_there first ((exhausts w.protocol.state 1, Exhausted) ∷ []))
+          (admit_of w.protocol.state first)
 
       by_test : (t : Bool) → not (is_among c (length w.ports.boxes)) ≡ t
-          → unless w.protocol.state (rows t) (admit_first w.protocol.state (slice_get (list_of w.ports.inboxes c) 0))
-          ≡ unless w.protocol.state (rows t) (admit_first w.protocol.state (slice_get (inbox_of c (live_state w).waiting) 0))
+          → at_rows t (list_of w.ports.inboxes c) ≡ at_rows t (inbox_of c (live_state w).waiting)
       by_test true e = refl
       by_test false e =
           let range = client_range c (length w.ports.boxes) e in
-          ap (λ xs. unless w.protocol.state (rows false) (admit_first w.protocol.state (slice_get xs 0))) (inbox_is c range.0 range.1)
+          ap (at_rows false) (inbox_is c range.0 range.1)
 
   -- the table of a delivery, by its first test
   abbrev at_rows : ℕ → List ℕ → Bool → List (ℕ × Frame) → Outcome
@@ -107,39 +138,20 @@ module _ (w : Pair) (h : Holds w) where
           let range = client_range c (length w.ports.boxes) e in
           ap (at_rows c bytes false) (inbox_is c range.0 range.1)
 
-  -- ADMIT, step by step: the client, the inbox, the table
-  module _ (c : ℕ) (client : Option Refusal) (is : client ≡ first_refusal (arrival_refusals (length w.ports.boxes) w.protocol.state c))
-      (none : client ≡ None)
-    where
-      admits : (o : Option (ℕ × Frame)) → slice_get (list_of w.ports.inboxes c) 0 ≡ o
-          → admit_first w.protocol.state o ≡ allowed w.start w.protocol.state None (Admit c)
-      admits o e =
-          let first = admit_first w.protocol.state (slice_get (list_of w.ports.inboxes c) 0) in
-          ap (admit_first w.protocol.state) (sym e)
-          ∙ done_if_none_refuses w.protocol.state (arrival_refusals (length w.ports.boxes) w.protocol.state c) first (sym is ∙ none)
-          ∙ admit_sees_the_pair c
+  -- ADMIT, by its table
+  module _ (c : ℕ) where
+    abbrev pub first : Option (ℕ × Frame)
+    first = slice_get (list_of w.ports.inboxes c) 0
 
-      pub admit_finds_none : length (list_of w.ports.inboxes c) ≡ 0 → (replies.Empty, w.protocol.state) ≡ allowed w.start w.protocol.state None (Admit c)
-      admit_finds_none e = admits None (no_first (list_of w.ports.inboxes c) e)
+    abbrev pub arrival : List Row
+    arrival = admit_refusals (length w.ports.boxes) w.protocol.state c first
 
-      module _ (some : length (list_of w.ports.inboxes c) ≡ 0 → ⊥)
-          (o : Option Refusal) (row : o ≡ first_refusal (admit_refusals w.protocol.state)) where
-        pub admit_is_refused : (why : Refusal) → o ≡ Some why → refused w.protocol.state why ≡ allowed w.start w.protocol.state None (Admit c)
-        admit_is_refused why e =
-            let first = some_first (list_of w.ports.inboxes c) some in
-            refused_by_the_first w.protocol.state (admit_refusals w.protocol.state) (admit_done w.protocol.state first.0.0) why (sym row ∙ e)
-            ∙ admits (Some first.0) first.1
-
-        pub admit_is_done : (n : ℕ) (f : Frame) → slice_get (list_of w.ports.inboxes c) 0 ≡ Some (n, f) → o ≡ None
-            → admit_done w.protocol.state n ≡ allowed w.start w.protocol.state None (Admit c)
-        admit_is_done n f first e =
-            done_if_none_refuses w.protocol.state (admit_refusals w.protocol.state) (admit_done w.protocol.state n) (sym row ∙ e)
-            ∙ admits (Some (n, f)) first
-
-        pub admit_may_want : o ≡ None → MayWantMemory w.protocol.state (allowed w.start w.protocol.state None (Admit c))
-        admit_may_want e =
-            let first = some_first (list_of w.ports.inboxes c) some in
-            rw (← admit_is_done first.0.0 first.0.1 first.1 e) tt
+    pub admit_by_table : ByTable w None (Admit c) arrival (IsSome first) (admit_of w.protocol.state first)
+    admit_by_table = record { sees = admit_sees_the_pair c; may = may first }
+      where
+        may : (o : Option (ℕ × Frame)) → IsSome o → MayWantMemory w.protocol.state (admit_of w.protocol.state o)
+        may None some = absurd (cc)
+        may (Some x) some = tt
 
   -- DELIVER, by its table
   module _ (c : ℕ) (bytes : List ℕ) where

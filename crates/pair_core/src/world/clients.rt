@@ -13,19 +13,16 @@ impl World {
     pub(super) fn admit(&mut self, client: u64) -> Result<Reply, MemoryWanted>
         ensures { DoesAllowed None (events.Admit client) result self.old self.new }
     {
-        if let Some(why) = self.record.arrival_refusal(client) {
-            return Ok(Reply::Refused(why));
-        }
-        if self.record.inbox_len(client) == 0 {
-            return Ok(Reply::Empty);
-        }
-        if let Some(why) = self.record.admit_refusal() {
-            return Ok(Reply::Refused(why));
-        }
         self.record.keep();
-        let (number, frame) = self.record.admit(client)?;
-        self.nodes.arrive(&frame);
-        Ok(Reply::Admitted(number))
+        let why = match self.record.admit(client) {
+            Ok(Some((number, frame))) => {
+                self.nodes.arrive(&frame);
+                return Ok(Reply::Admitted(number));
+            }
+            Ok(None) => return Ok(Reply::Empty),
+            Err(why) => by_table(why)?,
+        };
+        Ok(Reply::Refused(why))
     }
 
     /// A client delivers a frame of these bytes.

@@ -165,8 +165,7 @@ impl World {
         ensures err { OnErr result (self.new ≡ self.old) }
     {
         self.record.keep();
-        let most = self.record.alone_steps_left(count);
-        self.record.reserve_lone_steps()?;
+        let most = self.record.reserve_lone_steps(count)?;
         let steps = self.nodes.run_to_frame(most);
         self.record.run_alone(steps, self.nodes.outbox());
         self.nodes.send_off();

@@ -1,9 +1,8 @@
 -- What follows from a mode that doesn't refuse an event.
-use Rattle.std.proofs.Common.{◌≡◌, refl, Bool, true, false, List, [], ◌∷◌, Option, None, Some}
+use Rattle.std.proofs.Common.{◌≡◌, refl, Bool, true, false, List, Option, None, Some}
 use Rattle.failover.specs.{declared.mode.Mode.Mode, declared.mode.Mode.TheVariants.{Filling, Alone, Stopped}}
 use Rattle.failover.specs.declared.change.Change.TheVariants.{FailPrimary, FailBackup, GoLive, Protect}
 use Rattle.pair_record.specs.declared.event.Refusal.{Refusal}
-use Rattle.pair_record.specs.declared.event.Refusal.TheVariants.{Exhausted}
 use Rattle.pair_record.specs.Modes.{is_stopped, is_alone, primary_refusal, backup_refusal, change_refusal}
 use Rattle.pair_record.specs.Tables.{Row, first_of}
 use Rattle.failover.specs.Modes.{is_filling, mode_filled}
@@ -50,11 +49,7 @@ pub protect_goes : (mode : Mode) → change_refusal Protect mode ≡ None → is
 protect_goes Alone e = refl
 protect_goes other e = absurd (cc)
 
--- what isn't refused at all isn't by the mode; and where no word is full, only the mode refuses
+-- what isn't refused at all isn't by the mode
 pub mode_passed : (o : Option Refusal) (rows : List Row) → first_of o rows ≡ None → o ≡ None
 mode_passed None rows e = refl
 mode_passed (Some why) rows e = absurd (cc)
-
-pub mode_alone : (o : Option Refusal) → first_of o ((false, Exhausted) ∷ []) ≡ o
-mode_alone None = refl
-mode_alone (Some why) = refl

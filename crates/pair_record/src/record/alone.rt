@@ -100,19 +100,26 @@ impl PairRecord {
     }
 
     /// Makes room in the history for all that a node that is alone adds where its guest makes steps of which only the last sends: one
-    /// stored entry for the steps, and each of 64 frames landing for each client.
+    /// stored entry for the steps, and each of 64 frames landing for each client. Answers how many of this many it may begin.
     ///
     /// # Errors
     ///
     /// The want of memory that stood in the way.
-    pub fn reserve_lone_steps(&mut self) -> Result<(), MemoryWanted>
+    pub fn reserve_lone_steps(&mut self, count: u64) -> Result<u64, MemoryWanted>
         ensures same { IsAsBefore self.old self.new }
         ensures room { OnOk result (64 * length self.old.ports.boxes < self.new.room) }
+        ensures most { IfOk result (λ steps. steps ≤ count) }
+        ensures fits { IfOk result (λ steps. 0 < steps
+            → length (all_entries self.old.protocol.journal) + (steps + 1024) < number_limit) }
+        ensures fewer { IfOk result (λ steps. steps < count
+            → number_limit ≤ length (all_entries self.old.protocol.journal) + (steps + 1025)) }
         // What is true of all ports.
         ensures few { length self.old.ports.boxes ≤ max_clients }
     {
         let landings = STEP_FRAMES * self.ports.clients() as usize;
-        self.journal.reserve(landings + 1)
+        self.journal.reserve(landings + 1)?;
+        let left = self.journal.entries_left();
+        Ok(count.min(left.saturating_sub(STEP_ENTRIES - 1)))
     }
 
     /// Where a node is alone: its guest made so many steps, along which it sent these frames, and they land, in the room that was reserved.
@@ -134,15 +141,5 @@ impl PairRecord {
         let first = self.gate.next();
         let _landed = self.journal.land(&mut self.ports, first, sent);
         self.gate.begin(first - 1 + sent.len() as u64);
-    }
-
-    /// How many of these steps a node that is alone may begin, where none but the last sends a frame.
-    pub fn alone_steps_left(&self, count: u64) -> u64
-        ensures most { result ≤ count }
-        ensures fits { 0 < result → length (all_entries self.now.protocol.journal) + (result + 1024) < number_limit }
-        ensures fewer { result < count → number_limit ≤ length (all_entries self.now.protocol.journal) + (result + 1025) }
-    {
-        let left = self.journal.entries_left();
-        count.min(left.saturating_sub(STEP_ENTRIES - 1))
     }
 }

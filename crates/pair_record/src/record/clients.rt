@@ -1,13 +1,13 @@
 //! What clients do, at the pair's record.
-ghost use Rattle.std.specs.Prelude.{◌≡◌, ◌<◌, ◌≤◌, ◌∷◌, [], length, IfOk, OnOk, IfErr, OnErr, IsSome, ⊤, None, Some, false, slice_get};
+ghost use Rattle.std.specs.Prelude.{◌≡◌, ◌<◌, ◌≤◌, ◌∷◌, [], length, IfOk, OnOk, IfErr, OnErr, IfSome, IsSome, ⊤, None, Some, false, slice_get};
 ghost use Rattle.frame_ports.specs.Addresses.{IsFrame};
 ghost use Rattle.frame_ports.specs.Limits.{box_frames, max_clients};
 ghost use Rattle.frame_ports.specs.Ports.{IsClient, inbox_of, box_of, after_delivery};
 ghost use Rattle.pair_record.specs.declared.event.Reply.TheVariants as replies;
-ghost use Rattle.pair_record.specs.Protocol.{first_refusal, Refuses, arrival_refusals, admit_refusals, admit_done, arrival_done};
+ghost use Rattle.pair_record.specs.Protocol.{exhausts, first_refusal, Refuses, admit_refusals, admit_of, arrival_done};
 ghost use Rattle.pair_record.specs.Protocol.{deliver_refusals, RefusesDelivery, delivery_refused, deliver_done, take_refusals, take_done};
 ghost use Rattle.pair_record.specs.Protocol.{loss_refusals, loss_of, loss_reply, lost_in, lost_out};
-ghost use Rattle.pair_record.specs.Record.{IsAsBefore, given, ports_after_admit, ports_after_take};
+ghost use Rattle.pair_record.specs.Record.{IsAsBefore, given, ports_after_admit, ports_if_came, ports_after_take};
 ghost use Rattle.pair_record.specs.Record.{ports_after_lose_in, ports_after_lose_out, ports_if_lost};
 
 use super::PairRecord;
@@ -26,59 +26,43 @@ impl PairRecord {
         self.ports.clients()
     }
 
-    /// Why a frame of this client's can't arrive.
-    pub fn arrival_refusal(&self, client: u64) -> Option<Refusal>
-        ensures { result ≡ first_refusal (arrival_refusals (length self.now.ports.boxes) self.now.protocol client) }
+    /// The first frame of this client's inbox leaves it for the guest. Answers it with its number; where none waits, nothing happens.
+    ///
+    /// # Errors
+    ///
+    /// In this order: [`Refusal::NoClient`]; [`Refusal::Stopped`] where the primary has stopped; where a frame waits,
+    /// [`Refusal::Exhausted`] where the history would reach 2^62, and [`Refusal::NoMemory`] where the room for its arrival can't be had.
+    pub fn admit(&mut self, client: u64) -> Result<Option<(u64, Frame)>, Refusal>
+        ensures first { IfOk result (λ first. first ≡ slice_get (inbox_of self.old.ports client) 0) }
+        ensures frame { IfOk result (λ first. IfSome first (λ x. IsFrame x.1)) }
+        ensures protocol { IfOk result (λ first. self.new.protocol ≡ (admit_of self.old.protocol first).1) }
+        ensures ports { IfOk result (λ first. self.new.ports
+            ≡ ports_if_came first (ports_after_admit self.old.ports client) self.old.ports) }
+        ensures free { OnOk result (first_refusal (admit_refusals (length self.old.ports.boxes) self.old.protocol client
+            (slice_get (inbox_of self.old.ports client) 0)) ≡ None) }
+        ensures why { IfErr result (Refuses (admit_refusals (length self.old.ports.boxes) self.old.protocol client
+            (slice_get (inbox_of self.old.ports client) 0)) (IsSome (slice_get (inbox_of self.old.ports client) 0))) }
+        ensures refused { OnErr result (IsAsBefore self.old self.new) }
     {
         if !self.is_client(client) {
-            Some(Refusal::NoClient)
-        } else if is_stopped(self.mode) {
-            Some(Refusal::Stopped)
-        } else {
-            None
+            return Err(Refusal::NoClient);
         }
-    }
-
-    /// How many frames of this client wait for the guest.
-    pub fn inbox_len(&self, client: u64) -> usize
-        requires { IsClient self.now.ports client }
-        ensures { result ≡ length (inbox_of self.now.ports client) }
-    {
-        self.ports.inbox_len(client)
-    }
-
-    /// Why a frame that waits isn't admitted.
-    pub fn admit_refusal(&self) -> Option<Refusal>
-        ensures { result ≡ first_refusal (admit_refusals self.now.protocol) }
-    {
+        if is_stopped(self.mode) {
+            return Err(Refusal::Stopped);
+        }
+        if self.ports.inbox_len(client) == 0 {
+            return Ok(None);
+        }
         if self.is_exhausted_by(1) {
-            Some(Refusal::Exhausted)
-        } else {
-            None
+            return Err(Refusal::Exhausted);
         }
-    }
-
-    /// The first frame of this client's inbox leaves it for the guest, with its number.
-    pub fn admit(&mut self, client: u64) -> Result<(u64, Frame), MemoryWanted>
-        requires free { first_refusal (admit_refusals self.old.protocol) ≡ None }
-        requires client { IsClient self.old.ports client }
-        requires some { 0 < length (inbox_of self.old.ports client) }
-        ensures first { IfOk result (λ x. slice_get (inbox_of self.old.ports client) 0 ≡ Some x) }
-        ensures frame { IfOk result (λ x. IsFrame x.1) }
-        ensures protocol { IfOk result (λ x. self.new.protocol ≡ (admit_done self.old.protocol x.0).1) }
-        ensures ports { OnOk result (self.new.ports ≡ ports_after_admit self.old.ports client) }
-        ensures err { OnErr result (IsAsBefore self.old self.new) }
-    {
-        self.arrive(client, is_alone(self.mode))
+        let first = self.arrive(client, is_alone(self.mode))?;
+        Ok(Some(first))
     }
 
     /// The first frame of this client's inbox leaves it, with its number, and that goes at once into the history, or it runs.
-    pub(super) fn arrive(
-        &mut self,
-        client: u64,
-        at_once: bool,
-    ) -> Result<(u64, Frame), MemoryWanted>
-        requires free { first_refusal (admit_refusals self.old.protocol) ≡ None }
+    fn arrive(&mut self, client: u64, at_once: bool) -> Result<(u64, Frame), MemoryWanted>
+        requires free { exhausts self.old.protocol 1 ≡ false }
         requires client { IsClient self.old.ports client }
         requires some { 0 < length (inbox_of self.old.ports client) }
         ensures first { IfOk result (λ x. slice_get (inbox_of self.old.ports client) 0 ≡ Some x) }

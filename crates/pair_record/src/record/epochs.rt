@@ -1,11 +1,11 @@
 //! What happens at the record to epochs of a guest that runs elsewhere: frames are handed out to it, and its epochs come back.
-ghost use Rattle.std.specs.Prelude.{◌≡◌, ◌+◌, ◌<◌, ◌≤◌, length, All, IfOk, OnOk, OnErr, None, Some, true, false, slice_get};
+ghost use Rattle.std.specs.Prelude.{◌≡◌, ◌+◌, ◌<◌, ◌≤◌, length, All, IfOk, OnOk, OnErr, IfSome, OnSome, IfNone, None, true, false, slice_get};
 ghost use Rattle.frame_ports.specs.Addresses.{IsFrame};
 ghost use Rattle.frame_ports.specs.Ports.{IsClient, inbox_of};
 ghost use Rattle.pair_history.specs.Failures.{arrived_numbers};
 ghost use Rattle.pair_record.specs.EpochActs.{hand_out_done, seal_epoch_done, enter_epoch_refusals, enter_epoch_done};
 ghost use Rattle.pair_record.specs.Modes.{is_alone as alone};
-ghost use Rattle.pair_record.specs.Protocol.{exhausts, first_refusal, admit_refusals, cut_refusals, protect_refusals};
+ghost use Rattle.pair_record.specs.Protocol.{exhausts, first_refusal, cut_refusals, protect_refusals};
 ghost use Rattle.pair_record.specs.Protocol.{begin_done};
 ghost use Rattle.pair_record.specs.Record.{IsAsBefore, IsLone, ports_landed, ports_after_admit};
 
@@ -33,24 +33,27 @@ impl PairRecord {
         self.journal.arrived()
     }
 
-    /// The first frame of this client's inbox leaves it for the guest, with its number, whatever the mode: from then on it runs. This takes
-    /// a place of those that [`PairRecord::reserve_arrivals`] made, and can't fail.
-    pub fn hand_out(&mut self, client: u64) -> (u64, Frame)
-        requires free { first_refusal (admit_refusals self.old.protocol) ≡ None }
+    /// The first frame of this client's inbox, if one waits, leaves it for the guest, with its number, whatever the mode: from then on it
+    /// runs. This takes a place of those that [`PairRecord::reserve_arrivals`] made, and can't fail.
+    pub fn hand_out(&mut self, client: u64) -> Option<(u64, Frame)>
+        requires free { exhausts self.old.protocol 1 ≡ false }
         requires client { IsClient self.old.ports client }
-        requires some { 0 < length (inbox_of self.old.ports client) }
         requires room { 0 < self.old.arrival_room }
-        ensures first { slice_get (inbox_of self.old.ports client) 0 ≡ Some result }
-        ensures frame { IsFrame result.1 }
-        ensures protocol { self.new.protocol ≡ (hand_out_done self.old.protocol result.0).1 }
-        ensures ports { self.new.ports ≡ ports_after_admit self.old.ports client }
+        ensures first { result ≡ slice_get (inbox_of self.old.ports client) 0 }
+        ensures frame { IfSome result (λ x. IsFrame x.1) }
+        ensures protocol { IfSome result (λ x. self.new.protocol ≡ (hand_out_done self.old.protocol x.0).1) }
+        ensures ports { OnSome result (self.new.ports ≡ ports_after_admit self.old.ports client) }
+        ensures none { IfNone result (IsAsBefore self.old self.new) }
         ensures room { self.old.arrival_room ≤ self.new.arrival_room + 1 }
     {
+        if self.ports.inbox_len(client) == 0 {
+            return None;
+        }
         let Ok(Some((number, frame))) = self.ports.admit(client) else {
             unreachable!();
         };
         self.journal.arrive(number);
-        (number, frame)
+        Some((number, frame))
     }
 
     /// An epoch of the guest, so many arrivals of the frames that were handed out, the first first, and so many steps after them, along

@@ -1,40 +1,32 @@
-use Rattle.std.proofs.Common.{◌≡◌, ◌+◌, ◌-◌, ◌≤◌, ℕ, take, suc, sym, ap, ◌∙◌, arith}
-use Rattle.frame_ports.specs.Lands.{list_of}
-use Rattle.pair_book.specs.Handing.{Handing, handing, handed_all, handed_out}
-use Rattle.pair_book.proofs.HandingLaws.{as_many}
+use Rattle.std.proofs.Common.{◌≡◌, ◌+◌, ◌-◌, ℕ, suc, sym, ap, ◌∙◌, arith}
+use Rattle.pair_book.specs.Handing.{Handing, handing, handed_out}
 use Rattle.pair_book.proofs.handing.hand_out.Goals as goal
 
 pub loop-client-preserved : goal.loop-client-preserved
 loop-client-preserved c =
     let v = c.loop-client.invariant in
     let p = c.loop-client.pair in
-    let new = c.hand_out_some.new.pair in
-    let e = c.hand_out_some.ensures in
+    let new = c.hand_out_first.new.pair in
+    let e = c.hand_out_first.ensures in
     let clients = c.clients-clients.result in
     let client = c.loop-client.client in
-    let inbox = list_of p.ports.inboxes client in
-    let count = c.min-count.result in
-    let least = c.min-count.ensures in
-    let here = c.inbox_len.ensures in
-    let few : count ≤ 4 = omega (arith, least) in
     let m = clients - client in
     let h : Handing = handing p.protocol p.ports c.loop-client.frames.items in
-    let now : Handing = handing new.protocol new.ports c.hand_out_some.new.frames.items in
+    let now : Handing = handing new.protocol new.ports c.hand_out_first.new.frames.items in
     let next : (clients + 1) - (client + 1) ≡ m = omega arith in
     let this : (clients + 1) - client ≡ suc m = omega (arith, c.loop-client-test.true) in
-    let four : take count inbox ≡ take 4 inbox = as_many count 4 inbox few (λ k. omega (arith, k, least, here)) in
     record {
       first = omega arith;
       done =
           ap (λ (k : ℕ). handed_out k (client + 1) now) next
-          ∙ ap (handed_out m (client + 1)) (e.done ∙ ap (λ l. handed_all client l h) four)
+          ∙ ap (handed_out m (client + 1)) e.done
           ∙ ap (λ (k : ℕ). handed_out k client h) (sym this)
           ∙ v.done;
       boxes = e.boxes ∙ v.boxes;
       inboxes = e.inboxes ∙ e.boxes ∙ v.boxes;
-      numbers = omega (arith, e.numbers, v.numbers, few);
-      arrival_room = omega (arith, e.arrival_room, v.arrival_room, few);
-      room = omega (arith, e.len, e.room, v.room, few);
+      numbers = omega (arith, e.numbers, v.numbers);
+      arrival_room = omega (arith, e.arrival_room, v.arrival_room);
+      room = omega (arith, e.len, e.room, v.room);
       frames = e.frames;
     }
 

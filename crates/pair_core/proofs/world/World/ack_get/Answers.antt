@@ -1,16 +1,16 @@
 use Rattle.std.proofs.Common.{rules}
-use Rattle.std.proofs.{Common.{arith, ◌≡◌, ◌<◌, ◌∙◌, sym, ap, subst, false, Some}, lemmas.List.length-append}
+use Rattle.std.proofs.{Common.{arith, ◌≡◌, ◌<◌, ◌∙◌, sym, ap, length, false, Some}, lemmas.List.length-append}
 use Rattle.std.specs.Prelude.{slice_get}
 use Rattle.pair_history.specs.Landings.{landings}
-use Rattle.pair_record.specs.Protocol.{Outcome, first_refusal, ack_done, ack_outcome, ack_refusals, acknowledge_refusals, let_go}
-use Rattle.pair_record.specs.declared.event.Reply.TheVariants as replies
-use Rattle.pair_core.specs.{Answering.{AddsEntries, MayWantMemory}, Pair.{shown_state}}
+use Rattle.pair_record.specs.Protocol.{Outcome, first_refusal, or_else, refused, ack_done, ack_outcome, ack_refusals, acknowledge_refusals, let_go}
+use Rattle.pair_record.specs.declared.event.Event.TheVariants.{AckGet}
+use Rattle.pair_core.specs.{Answering.{AddsEntries}, Pair.{shown_state}}
 use Rattle.pair_record.specs.Record.{ports_after_ack}
 use Rattle.pair_core.specs.internal.WorldFields.{pair_of}
 use Rattle.pair_history.specs.laws.Landings.{length-landings}
 use Rattle.pair_core.specs.laws.{Events.moved_to, ClientEvents.ack_holds, Lines.below_at}
-use Rattle.pair_core.specs.laws.Outcomes.{done_if_none_refuses, refused_by_the_first}
-use Rattle.pair_core.proofs.Calls.{named, on_err}
+use Rattle.pair_core.specs.laws.Outcomes.{ByTable, refused_by_table, wanted_by_table}
+use Rattle.pair_core.proofs.Calls.{on_err}
 use Rattle.pair_record.specs.laws.Tables.{acknowledge_free, acknowledge_as}
 use Rattle.pair_core.proofs.world.World.ack_get.Goals.{In-Some}
 use Rattle.pair_core.proofs.world.World.ack_get.Goals as goal
@@ -31,15 +31,26 @@ table : (c : In-Some) → first_refusal (acknowledge_refusals false (pair_of c.s
     ≡ first_refusal (ack_refusals (pair_of c.self.inside).ports.boxes (pair_of c.self.inside).protocol.state c.in-Some.packet)
 table c = let w = pair_of c.self.inside in acknowledge_as w.ports.boxes w.protocol.state c.in-Some.packet (below c)
 
--- what the protocol says of it
-seen : (c : In-Some) → (done : Outcome)
-    → done ≡ ack_outcome (pair_of c.self.inside).ports.boxes (pair_of c.self.inside).protocol.state (Some c.in-Some.packet)
-    → done ≡ ack_outcome (shown_state (pair_of c.self.inside)).boxes (pair_of c.self.inside).protocol.state
-    (slice_get (pair_of c.self.inside).protocol.lines.back c.args.k)
-seen c done is =
+-- so what the protocol says of it
+by_the_table : (c : In-Some) → ByTable (pair_of c.self.inside) (slice_get (pair_of c.self.inside).protocol.lines.back c.args.k) (AckGet c.args.k)
+    (acknowledge_refusals false (pair_of c.self.inside).ports.boxes (pair_of c.self.inside).protocol.state c.in-Some.packet)
+    (0 < length (let_go (pair_of c.self.inside).ports.boxes (pair_of c.self.inside).protocol.state c.in-Some.packet.number))
+    (ack_done (pair_of c.self.inside).ports.boxes (pair_of c.self.inside).protocol.state c.in-Some.packet.number)
+by_the_table c =
     let w = pair_of c.self.inside in
-    is ∙ ap (λ bs. ack_outcome bs w.protocol.state (Some c.in-Some.packet)) c.self.invariant.accords.clients.boxes
-    ∙ ap (ack_outcome (shown_state w).boxes w.protocol.state) (sym (there c))
+    let r = w.protocol.state in
+    let b = w.ports.boxes in
+    let p = c.in-Some.packet in
+    let leaving = let_go b r p.number in
+    record {
+      sees =
+          ap (λ o. or_else o (refused r) (ack_done b r p.number)) (table c)
+          ∙ ap (λ bs. ack_outcome bs r (Some p)) c.self.invariant.accords.clients.boxes
+          ∙ ap (ack_outcome (shown_state w).boxes r) (sym (there c));
+      may = λ (some : 0 < length leaving).
+          (let adds : AddsEntries r (ack_done b r p.number).1 =
+          omega (arith, length-append r.journal.history (landings b leaving), length-landings b leaving, some) in adds);
+    }
 
 pub invariant_of-self : goal.invariant_of-self
 invariant_of-self c =
@@ -52,14 +63,9 @@ invariant_of-self c =
 
 pub returns : goal.returns
 returns c = (
-  (let w = pair_of c.self.inside in
-      let p = c.in-Some.packet in
-      let at = (goal.at.returns c).In-Some in
-      let rows = ack_refusals w.ports.boxes w.protocol.state p in
-      let first = named (acknowledge_refusals false w.ports.boxes w.protocol.state p) _ c.in-Err.why c.in_ok-why-in-Err.ensures.other c.in-Err.ensures.why in
-      (λ i. (replies.Refused (c.in_ok-why-in-Err.ensures.same i), c.in-Err.ensures.refused.0 i))
-      ∙ rw (← c.self.view_is) (seen at _ (refused_by_the_first w.protocol.state rows (ack_done w.ports.boxes w.protocol.state p.number) c.in-Err.why
-      (sym (table at) ∙ first)))),
+  (let table = by_the_table (goal.at.returns c).In-Some in
+      rw (← c.self.view_is) (refused_by_table table c.in-Err.why _ _ c.in-Err.ensures.why c.in_ok-why-in-Err.ensures.same
+      c.in_ok-why-in-Err.ensures.other c.in-Err.ensures.refused.0)),
   search rules,
   search rules,
   search rules,
@@ -70,16 +76,7 @@ pub returns-in_err-why-in-Err : goal.returns-in_err-why-in-Err
 returns-in_err-why-in-Err c = (
   search rules,
   search rules,
-  (let w = pair_of c.self.inside in
-      let r = w.protocol.state in
-      let b = w.ports.boxes in
-      let p = c.in-Some.packet in
-      let at = (goal.at.returns-in_err-why-in-Err c).In-Some in
-      let leaving = let_go b r p.number in
-      let why = rw c.in_err-why-in-Err.ensures.memory at c.in-Err.ensures.why in
-      let goes_on = seen at _ (done_if_none_refuses r (ack_refusals b r p) (ack_done b r p.number) (sym (table at) ∙ why.0)) in
-      let adds : AddsEntries r (ack_done b r p.number).1 =
-      omega (arith, length-append r.journal.history (landings b leaving), length-landings b leaving, why.1) in
-      rw (← c.self.view_is) (on_err _ _ (subst (MayWantMemory r) goes_on adds))),
+  (let table = by_the_table (goal.at.returns-in_err-why-in-Err c).In-Some in
+      rw (← c.self.view_is) (on_err _ _ (wanted_by_table table c.in-Err.why _ c.in-Err.ensures.why c.in_err-why-in-Err.ensures.memory))),
   search rules,
 )

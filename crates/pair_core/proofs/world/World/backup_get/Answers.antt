@@ -10,6 +10,7 @@ use Rattle.pair_core.specs.{Pair.{Pair, shown_state}, Replication.Replicates}
 use Rattle.pair_record.specs.Protocol.{Record, Outcome, first_refusal, backup_refusals}
 use Rattle.pair_core.specs.internal.WorldFields.{pair_of}
 use Rattle.pair_record.specs.laws.Modes.{backup_goes}
+use Rattle.pair_record.specs.declared.window.Window.{Window}
 use Rattle.pair_core.proofs.ReplicationLaws.{commit_replicates}
 use Rattle.pair_core.specs.laws.Consistent.{in_mode}
 use Rattle.pair_core.specs.Lines.{Lines, packet, with_back, lines_after}
@@ -24,6 +25,10 @@ names_cut : (w : Pair) → Holds w → (k : ℕ) (p : Packet) (o : Option Packet
     → p.generation ≡ w.protocol.state.generation → p.number < w.protocol.state.window.to_cut
 names_cut w h k p o e is same =
     below_at w.protocol.state.generation w.protocol.state.window.to_cut w.protocol.lines.forward k (Some p) h.lines.forward (sym is ∙ e) same
+
+-- the number of the next checkpoint to be committed
+abbrev next_of : Window → ℕ
+next_of w = w.to_commit
 
 -- no node is alone
 two : (k : ℕ) {w v : Pair} → w ≡ v → mode_refusal v.protocol.state.mode (BackupGet k) ≡ None → is_alone w.protocol.state.mode ≡ false
@@ -44,9 +49,9 @@ invariant_of-self-then-packet-number c =
     let w = pair_of c.self.inside in
     let r = w.protocol.state in
     let some : r.window.to_commit - 1 < r.window.to_commit =
-    let l = c.if-packet-number.true in let n = c.to_commit-number.ensures in omega arith in
+    let l = c.if-packet-number.true in let n = ap next_of c.window-number.ensures in omega arith in
     let lines = one_more w.protocol.lines _ _ r.generation _ _ (r.window.to_commit - 1) c.acknowledge.ensures
-    c.reserve_acknowledgement.ensures.lines c.generation-generation.ensures (let n = c.to_commit-number.ensures in omega arith) in
+    c.reserve_acknowledgement.ensures.lines c.generation-generation.ensures (let n = ap next_of c.window-number.ensures in omega arith) in
     subst Holds (λ i. record w { protocol = record w.protocol { lines = sym lines i } })
     (lines_hold w c.self.invariant (with_back w.protocol.lines (packet r.generation (r.window.to_commit - 1)))
     (named-back r w.protocol.lines c.self.invariant.lines (r.window.to_commit - 1) some))
@@ -55,7 +60,7 @@ pub oldest-requires-clause-some : goal.oldest-requires-clause-some
 oldest-requires-clause-some c =
     let w = pair_of c.self.inside in
     let more = names_next w.protocol.state c.in-Some.packet _ _ c.backup_refusal.ensures.refusal c.in_default-backup_refusal.is
-    (names_cut w c.self.invariant c.args.k c.in-Some.packet _ c.packet.ensures c.in-Some.is) c.to_commit-number.ensures
+    (names_cut w c.self.invariant c.args.k c.in-Some.packet _ c.packet.ensures c.in-Some.is) (ap next_of c.window-number.ensures)
     c.if-packet-number.false in
     (oldest_text w c.self.invariant c.backup_refusal.ensures.record (two c.args.k c.self.view_is c.requires) more).0
 
@@ -63,7 +68,7 @@ pub oldest-requires-clause-whole : goal.oldest-requires-clause-whole
 oldest-requires-clause-whole c =
     let w = pair_of c.self.inside in
     let more = names_next w.protocol.state c.in-Some.packet _ _ c.backup_refusal.ensures.refusal c.in_default-backup_refusal.is
-    (names_cut w c.self.invariant c.args.k c.in-Some.packet _ c.packet.ensures c.in-Some.is) c.to_commit-number.ensures
+    (names_cut w c.self.invariant c.args.k c.in-Some.packet _ c.packet.ensures c.in-Some.is) (ap next_of c.window-number.ensures)
     c.if-packet-number.false in
     let oldest = oldest_text w c.self.invariant c.backup_refusal.ensures.record (two c.args.k c.self.view_is c.requires) more in
     reads-whole w.nodes.image.shape w.protocol.state.generation w.protocol.state.window.to_commit (shown_state w).guest
@@ -73,14 +78,14 @@ pub commit-requires : goal.commit-requires
 commit-requires c =
     let w = pair_of c.self.inside in
     names_next w.protocol.state c.in-Some.packet _ _ c.backup_refusal.ensures.refusal c.in_default-backup_refusal.is
-    (names_cut w c.self.invariant c.args.k c.in-Some.packet _ c.packet.ensures c.in-Some.is) c.to_commit-number.ensures
+    (names_cut w c.self.invariant c.args.k c.in-Some.packet _ c.packet.ensures c.in-Some.is) (ap next_of c.window-number.ensures)
     c.if-packet-number.false
 
 pub commit-requires-2-clause-some : goal.commit-requires-2-clause-some
 commit-requires-2-clause-some c =
     let w = pair_of c.self.inside in
     let more = names_next w.protocol.state c.in-Some.packet _ _ c.backup_refusal.ensures.refusal c.in_default-backup_refusal.is
-    (names_cut w c.self.invariant c.args.k c.in-Some.packet _ c.packet.ensures c.in-Some.is) c.to_commit-number.ensures
+    (names_cut w c.self.invariant c.args.k c.in-Some.packet _ c.packet.ensures c.in-Some.is) (ap next_of c.window-number.ensures)
     c.if-packet-number.false in
     (oldest_text w c.self.invariant c.backup_refusal.ensures.record (two c.args.k c.self.view_is c.requires) more).0
 
@@ -88,7 +93,7 @@ pub commit-requires-2-clause-shape : goal.commit-requires-2-clause-shape
 commit-requires-2-clause-shape c =
     let w = pair_of c.self.inside in
     let more = names_next w.protocol.state c.in-Some.packet _ _ c.backup_refusal.ensures.refusal c.in_default-backup_refusal.is
-    (names_cut w c.self.invariant c.args.k c.in-Some.packet _ c.packet.ensures c.in-Some.is) c.to_commit-number.ensures
+    (names_cut w c.self.invariant c.args.k c.in-Some.packet _ c.packet.ensures c.in-Some.is) (ap next_of c.window-number.ensures)
     c.if-packet-number.false in
     let oldest = oldest_text w c.self.invariant c.backup_refusal.ensures.record (two c.args.k c.self.view_is c.requires) more in
     ap (λ (checkpoint : Change). checkpoint.shape) c.in_ok-checkpoint.ensures
@@ -105,14 +110,14 @@ lines_are c =
     let next : c.commit.new.self.protocol.window.to_commit ≡ r.window.to_commit + 1 =
     ap (λ (o : Outcome). o.1.window.to_commit) c.in-Ok.ensures.ok in
     one_more w.protocol.lines _ _ r.generation _ _ r.window.to_commit c.acknowledge-2.ensures c.reserve_acknowledgement.ensures.lines
-    c.generation-generation.ensures (omega arith)
+    c.generation-generation.ensures (let n = ap next_of c.window-number.ensures in omega arith)
 
 pub invariant_of-self-2 : goal.invariant_of-self-2
 invariant_of-self-2 c =
     let w = pair_of c.self.inside in
     let protocol = ap (λ (o : Outcome). o.1) c.in-Ok.ensures.ok in
     let more = names_next w.protocol.state c.in-Some.packet _ _ c.backup_refusal.ensures.refusal c.in_default-backup_refusal.is
-    (names_cut w c.self.invariant c.args.k c.in-Some.packet _ c.packet.ensures c.in-Some.is) c.to_commit-number.ensures
+    (names_cut w c.self.invariant c.args.k c.in-Some.packet _ c.packet.ensures c.in-Some.is) (ap next_of c.window-number.ensures)
     c.if-packet-number.false in
     let lines = lines_are (goal.at.invariant_of-self-2 c).After-commit-2 in
     subst Holds (λ i. record w {
@@ -131,7 +136,7 @@ returns c = (
       let k = c.backup_refusal.ensures.record in
       let alone = two c.args.k c.self.view_is c.requires in
       let more = names_next w.protocol.state c.in-Some.packet _ _ c.backup_refusal.ensures.refusal c.in_default-backup_refusal.is
-      (names_cut w c.self.invariant c.args.k c.in-Some.packet _ c.packet.ensures c.in-Some.is) c.to_commit-number.ensures
+      (names_cut w c.self.invariant c.args.k c.in-Some.packet _ c.packet.ensures c.in-Some.is) (ap next_of c.window-number.ensures)
       c.if-packet-number.false in
       let now = in_mode w h k in
       let then = in_mode (after_commit w) (commit_holds w h k c.keep.ensures.numbers alone more) (commit_record w.protocol.state k more) in

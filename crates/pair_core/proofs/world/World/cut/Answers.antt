@@ -3,7 +3,7 @@ use Rattle.pair_record.specs.declared.event.Event.TheVariants.{Cut}
 use Rattle.pair_core.specs.{Invariant.Holds, Nodes.{Nodes, HasShape, machine_of, with_sealed}}
 use Rattle.pair_record.specs.{declared.event.Reply.Reply, Modes.{is_alone, mode_refusal}}
 use Rattle.pair_core.specs.{Replication.Replicates, Texts.IsText, Pair.Pair}
-use Rattle.pair_record.specs.Protocol.{Outcome, cut_refusals, cut_done}
+use Rattle.pair_record.specs.{Protocol.{Outcome, cut_refusals, cut_done}, declared.window.Window.Window}
 use Rattle.pair_core.specs.internal.WorldFields.{pair_of}
 use Rattle.epoch_snapshot.specs.Bases.{IsBase}
 use Rattle.guest_machine.specs.Guest.{Guest}
@@ -34,7 +34,7 @@ makes : (c : In_ok-reply) (base : Guest) → IsBase (machine_of (pair_of c.self.
 makes c base is sized =
     let w = pair_of c.self.inside in
     let text = c.in_ok-text.text.items in
-    rw (← c.to_cut.ensures) (rw (← c.generation.ensures) (c.in_ok-text.ensures.text base is sized))
+    rw (← ap (λ (x : Window). x.to_cut) c.window.ensures) (rw (← c.generation.ensures) (c.in_ok-text.ensures.text base is sized))
 
 pub invariant_of-self-2 : goal.invariant_of-self-2
 invariant_of-self-2 c =

@@ -1,26 +1,28 @@
 use Rattle.std.proofs.Common.{rules}
-use Rattle.std.proofs.Common.{arith, ◌≡◌, ◌∙◌, List, refl, sym, ap, subst}
+use Rattle.std.proofs.Common.{arith, ◌∙◌, List, refl, sym, ap, subst, None}
 use Rattle.failover.specs.declared.mode.Mode.TheVariants.{Alone}
 use Rattle.pair_history.specs.Entries.{Frame}
-use Rattle.pair_record.specs.Protocol.{Outcome, first_refusal, fail_backup_refusals, fail_backup_done}
-use Rattle.pair_record.specs.declared.event.Reply.TheVariants as replies
-use Rattle.pair_core.specs.{Answering.MayWantMemory, Invariant.Holds, Nodes.left_alone}
+use Rattle.pair_record.specs.Protocol.{Outcome, fail_backup_refusals, fail_backup_done}
+use Rattle.pair_record.specs.declared.event.Event.TheVariants.{FailBackup}
+use Rattle.pair_core.specs.{Invariant.Holds, Nodes.left_alone}
 use Rattle.pair_record.specs.{Record.ports_after_all, Window.none_pending}
 use Rattle.pair_core.specs.internal.WorldFields.{pair_of}
 use Rattle.pair_record.specs.laws.Modes.{failure_goes}
 use Rattle.pair_core.specs.laws.{AllLands.all_landed_holds, Consistent.some_cut}
-use Rattle.pair_core.specs.laws.Outcomes.{done_if_none_refuses, refused_by_the_first, fail_backup_sees_the_pair}
-use Rattle.pair_core.proofs.Calls.{named, on_err}
+use Rattle.pair_core.specs.laws.Outcomes.{ByTable, done_by_table, refused_by_table, wanted_by_table, fail_backup_by_table}
+use Rattle.pair_core.proofs.Calls.{on_err}
+use Rattle.std.specs.Prelude.{⊤}
 use Rattle.pair_core.proofs.world.World.fail_backup.Goals.{After-fail_backup}
 use Rattle.pair_core.proofs.world.World.fail_backup.Goals as goal
 
--- the table of refusals, by the live machine's outbox
-table : (c : After-fail_backup) → first_refusal (fail_backup_refusals (pair_of c.self.inside).ports.boxes c.outbox.result.now (pair_of c.self.inside).protocol.state)
-    ≡ first_refusal (fail_backup_refusals (pair_of c.self.inside).ports.boxes (pair_of c.self.inside).nodes.live.outbox
-    (pair_of c.self.inside).protocol.state)
-table c =
+-- the event by its table, at what is lent of the live machine's outbox
+by_the_table : (c : After-fail_backup) → ByTable (pair_of c.self.inside) None FailBackup
+    (fail_backup_refusals (pair_of c.self.inside).ports.boxes c.outbox.result.now (pair_of c.self.inside).protocol.state) ⊤
+    (fail_backup_done (pair_of c.self.inside).ports.boxes c.outbox.result.now (pair_of c.self.inside).protocol.state)
+by_the_table c =
     let w = pair_of c.self.inside in
-    ap (λ (fs : List Frame). first_refusal (fail_backup_refusals w.ports.boxes fs w.protocol.state)) c.outbox.ensures.value
+    subst (λ (fs : List Frame). ByTable w None FailBackup (fail_backup_refusals w.ports.boxes fs w.protocol.state) ⊤
+    (fail_backup_done w.ports.boxes fs w.protocol.state)) (sym c.outbox.ensures.value) (fail_backup_by_table w c.self.invariant)
 
 pub fail_backup-requires-clause-sealed : goal.fail_backup-requires-clause-sealed
 fail_backup-requires-clause-sealed c =
@@ -30,15 +32,9 @@ fail_backup-requires-clause-sealed c =
 
 pub returns : goal.returns
 returns c = (
-  (let w = pair_of c.self.inside in
-      let b = w.ports.boxes in
-      let outbox = w.nodes.live.outbox in
-      let at = (goal.at.returns c).After-fail_backup in
-      let first =
-      named (fail_backup_refusals b c.outbox.result.now w.protocol.state) _ c.in-Err.why c.in_ok-why-in-Err.ensures.other c.in-Err.ensures.why in
-      (λ i. (replies.Refused (c.in_ok-why-in-Err.ensures.same i), c.in-Err.ensures.refused.0 i))
-      ∙ rw (← c.self.view_is) (refused_by_the_first w.protocol.state (fail_backup_refusals b outbox w.protocol.state)
-      (fail_backup_done b outbox w.protocol.state) c.in-Err.why (sym (table at) ∙ first) ∙ fail_backup_sees_the_pair w c.self.invariant)),
+  (let table = by_the_table (goal.at.returns c).After-fail_backup in
+      rw (← c.self.view_is) (refused_by_table table c.in-Err.why _ _ c.in-Err.ensures.why c.in_ok-why-in-Err.ensures.same
+      c.in_ok-why-in-Err.ensures.other c.in-Err.ensures.refused.0)),
   search rules,
   search rules,
   search rules,
@@ -48,16 +44,8 @@ pub returns-in_err-why-in-Err : goal.returns-in_err-why-in-Err
 returns-in_err-why-in-Err c = (
   search rules,
   search rules,
-  (let w = pair_of c.self.inside in
-      let b = w.ports.boxes in
-      let outbox = w.nodes.live.outbox in
-      let at = (goal.at.returns-in_err-why-in-Err c).After-fail_backup in
-      let why = rw c.in_err-why-in-Err.ensures.memory at c.in-Err.ensures.why in
-      let goes_on =
-      done_if_none_refuses w.protocol.state (fail_backup_refusals b outbox w.protocol.state) (fail_backup_done b outbox w.protocol.state)
-      (sym (table at) ∙ why.0)
-      ∙ fail_backup_sees_the_pair w c.self.invariant in
-      rw (← c.self.view_is) (on_err _ _ (subst (MayWantMemory w.protocol.state) goes_on tt))),
+  (let table = by_the_table (goal.at.returns-in_err-why-in-Err c).After-fail_backup in
+      rw (← c.self.view_is) (on_err _ _ (wanted_by_table table c.in-Err.why _ c.in-Err.ensures.why c.in_err-why-in-Err.ensures.memory))),
   search rules,
 )
 
@@ -74,16 +62,8 @@ invariant_of-self c =
 
 pub returns-in-Ok : goal.returns-in-Ok
 returns-in-Ok c = (
-  (let w = pair_of c.self.inside in
-      let b = w.ports.boxes in
-      let outbox = w.nodes.live.outbox in
-      let at = (goal.at.returns-in-Ok c).After-fail_backup in
-      rw (← c.self.view_is)
-      (c.in-Ok.ensures.ok
-      ∙ ap (λ (fs : List Frame). fail_backup_done b fs w.protocol.state) c.outbox.ensures.value
-      ∙ done_if_none_refuses w.protocol.state (fail_backup_refusals b outbox w.protocol.state) (fail_backup_done b outbox w.protocol.state)
-      (sym (table at) ∙ c.in-Ok.ensures.free)
-      ∙ fail_backup_sees_the_pair w c.self.invariant)),
+  (let table = by_the_table (goal.at.returns-in-Ok c).After-fail_backup in
+      rw (← c.self.view_is) (c.in-Ok.ensures.ok ∙ done_by_table table c.in-Ok.ensures.free)),
   search rules,
   search rules,
   search rules,

@@ -1,13 +1,7 @@
-use Rattle.std.proofs.Common.{rules}
-use Rattle.std.proofs.Common.{◌∙◌, false, length}
-use Rattle.frame_ports.specs.Lands.{list_of}
-use Rattle.pair_record.specs.{declared.event.Event.TheVariants.LoseIn, Protocol.{loss_of, loss_refusals, lost_in}}
-use Rattle.pair_record.specs.declared.event.Reply.TheVariants as replies
+use Rattle.std.proofs.Common.{rules, ◌∙◌}
 use Rattle.pair_core.specs.internal.WorldFields.{pair_of}
-use Rattle.pair_core.specs.laws.Outcomes.{refused_by_the_first}
-use Rattle.pair_core.proofs.Calls.{named, on_err}
-use Rattle.pair_core.specs.laws.ClientEvents.{lost_in_holds}
-use Rattle.pair_core.specs.laws.Losses.{lose_in_sees_the_pair, loss_is_done, loss_may_want}
+use Rattle.pair_core.proofs.Calls.{on_err}
+use Rattle.pair_core.specs.laws.{ClientEvents.lost_in_holds, Losses.lose_in_by_table, Outcomes.{done_by_table, refused_by_table, wanted_by_table}}
 use Rattle.pair_core.proofs.world.World.lose_in.Goals as goal
 
 pub invariant_of-self : goal.invariant_of-self
@@ -17,12 +11,9 @@ invariant_of-self c =
 
 pub returns-in-Ok : goal.returns-in-Ok
 returns-in-Ok c = (
-  (let w = pair_of c.self.inside in
-      let client = c.args.client in
-      let place = c.args.place in
+  (let table = lose_in_by_table (pair_of c.self.inside) c.self.invariant c.args.client c.args.place in
       (λ i. (c.lost.ensures i, c.lose_in.new.self.protocol)) ∙ c.in-Ok.ensures.done
-      ∙ rw (← c.self.view_is) (loss_is_done w (LoseIn client place) client (lost_in (list_of w.ports.inboxes client) place) (lose_in_sees_the_pair w c.self.invariant client place)
-      c.in-Ok.ensures.free)),
+      ∙ rw (← c.self.view_is) (done_by_table table c.in-Ok.ensures.free)),
   search rules,
   search rules,
   search rules,
@@ -32,24 +23,16 @@ pub returns-in_err-why-in-Err : goal.returns-in_err-why-in-Err
 returns-in_err-why-in-Err c = (
   search rules,
   search rules,
-  (let w = pair_of c.self.inside in
-      let client = c.args.client in
-      let place = c.args.place in
-      let why = rw c.in_err-why-in-Err.ensures.memory at c.in-Err.ensures.why in
-      rw (← c.self.view_is) (on_err _ _ (loss_may_want w (LoseIn client place) client (lost_in (list_of w.ports.inboxes client) place) (lose_in_sees_the_pair w c.self.invariant client place) why.0 why.1))),
+  (let table = lose_in_by_table (pair_of c.self.inside) c.self.invariant c.args.client c.args.place in
+      rw (← c.self.view_is) (on_err _ _ (wanted_by_table table c.in-Err.why _ c.in-Err.ensures.why c.in_err-why-in-Err.ensures.memory))),
   search rules,
 )
 
 pub returns : goal.returns
 returns c = (
-  (let w = pair_of c.self.inside in
-      let client = c.args.client in
-      let place = c.args.place in
-      let lost = lost_in (list_of w.ports.inboxes client) place in
-      let rows = loss_refusals false (length w.ports.boxes) w.protocol.state client lost in
-      (λ i. (replies.Refused (c.in_ok-why-in-Err.ensures.same i), c.in-Err.ensures.refused.0 i))
-      ∙ rw (← c.self.view_is) (refused_by_the_first w.protocol.state rows (loss_of w.protocol.state lost) c.in-Err.why
-      (named rows _ c.in-Err.why c.in_ok-why-in-Err.ensures.other c.in-Err.ensures.why) ∙ lose_in_sees_the_pair w c.self.invariant client place)),
+  (let table = lose_in_by_table (pair_of c.self.inside) c.self.invariant c.args.client c.args.place in
+      rw (← c.self.view_is) (refused_by_table table c.in-Err.why _ _ c.in-Err.ensures.why c.in_ok-why-in-Err.ensures.same
+      c.in_ok-why-in-Err.ensures.other c.in-Err.ensures.refused.0)),
   search rules,
   search rules,
   search rules,

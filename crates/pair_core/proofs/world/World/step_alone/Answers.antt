@@ -31,7 +31,7 @@ protocol_is : (c : After-send_off) → c.run_alone.new.self.protocol
     ≡ (after_lone_steps (pair_of c.self.inside) c.run_to_frame-steps.result
     (sent_in c.run_to_frame-steps.result (pair_of c.self.inside).nodes.live.guest)).protocol.state
 protocol_is c =
-    let same = c.reserve_lone_steps.ensures.same in
+    let same = c.in_ok-most.ensures.same in
     c.run_alone.ensures.protocol
     ∙ (λ i. record (same.0 i) {
       journal = with_history (same.0 i).journal (replicate c.run_to_frame-steps.result Ran
@@ -43,7 +43,7 @@ ports_are : (c : After-send_off) → c.run_alone.new.self.ports
     ≡ (after_lone_steps (pair_of c.self.inside) c.run_to_frame-steps.result
     (sent_in c.run_to_frame-steps.result (pair_of c.self.inside).nodes.live.guest)).ports
 ports_are c =
-    let same = c.reserve_lone_steps.ensures.same in
+    let same = c.in_ok-most.ensures.same in
     c.run_alone.ensures.ports
     ∙ (λ i. ports_landed (same.1 i) (same.0 i).next_frame (sent_is c i))
 
@@ -64,8 +64,7 @@ returns-clause-answered c =
     let most = c.run_to_frame-steps.ensures.most in
     let room = rw (← c.self.view_is) at c.requires.room in
     let numbers = rw (← c.self.view_is) at c.requires.numbers in
-    let left = c.alone_steps_left-most.ensures in
-    let fits = by_count c.alone_steps_left-most.result (length (all_entries w.protocol.state.journal)) room left.fits in
+    let fits = by_count c.in_ok-most.most (length (all_entries w.protocol.state.journal)) room c.in_ok-most.ensures.fits in
     rw (← c.self.view_is) ((λ i. (replies.Steps (nodes_are c i).live.guest.steps, protocol_is c i))
     ∙ lone_steps_answered w c.self.invariant (keeps_nothing w c.self.invariant c.keep.ensures.record (lone_is c)) (lone_is c) n
     c.run_to_frame-steps.ensures.quiet (omega arith) numbers)

@@ -5,20 +5,19 @@ use Rattle.frame_ports.specs.Lands.{list_of}
 use Rattle.pair_history.specs.Entries.{Frame}
 use Rattle.pair_record.specs.Journal.{all_entries}
 use Rattle.pair_book.specs.Handing.{handing, handed_all}
-use Rattle.pair_book.proofs.handing.hand_out_some.Given as goal
+use Rattle.pair_book.proofs.handing.hand_out_first.Given as goal
 
 abbrev pub invariant-loop-place : goal.invariant-loop-place
 invariant-loop-place l = record {
-  done : handed_all l.client (take (l.count - l.place) (list_of l.pair.ports.inboxes l.client))
+  done : handed_all l.client (take (4 - l.place) (list_of l.pair.ports.inboxes l.client))
       (handing l.pair.protocol l.pair.ports l.frames.items)
-      ≡ handed_all l.client (take l.count (list_of l.initial.pair.ports.inboxes l.client))
+      ≡ handed_all l.client (take 4 (list_of l.initial.pair.ports.inboxes l.client))
       (handing l.initial.pair.protocol l.initial.pair.ports l.initial.frames.items);
   boxes : length l.pair.ports.boxes ≡ length l.initial.pair.ports.boxes;
   inboxes : length l.pair.ports.inboxes ≡ length l.pair.ports.boxes;
-  there : l.count ≤ l.place + length (list_of l.pair.ports.inboxes l.client);
-  numbers : length (all_entries l.pair.protocol.journal) ≡ length (all_entries l.initial.pair.protocol.journal) + l.place;
+  numbers : length (all_entries l.pair.protocol.journal) ≤ length (all_entries l.initial.pair.protocol.journal) + l.place;
   arrival_room : l.initial.pair.arrival_room ≤ l.pair.arrival_room + l.place;
-  len : vec_len l.frames ≡ vec_len l.initial.frames + l.place;
+  len : vec_len l.frames ≤ vec_len l.initial.frames + l.place;
   room : vec_capacity l.initial.frames ≤ vec_capacity l.frames;
   frames : All (λ (x : ℕ × Frame). IsFrame x.1) l.frames.items;
 }
