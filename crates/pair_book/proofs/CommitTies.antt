@@ -18,7 +18,7 @@ use Rattle.growing_history.specs.LogState.{LogState, Epoch, state_at, entries_of
 use Rattle.growing_history.specs.laws.Sealed.{first-sealed}
 use Rattle.pair_book.specs.Commits.{commit_of}
 use Rattle.pair_book.specs.internal.Tie.{IsTied}
-use Rattle.pair_book.proofs.Ties.{step-tied, tied-still}
+use Rattle.pair_book.proofs.Ties.{step-tied, tied-as, tied-still}
 use Rattle.failover.specs.Modes.{mode_filled}
 
 -- the first of the sealed epochs, and the others
@@ -29,12 +29,6 @@ first-entries (e ∷ es) = sym (append-nil e.entries)
 other-entries : (es : List Epoch) → rest_of (map (λ (e : Epoch). e.entries) es) ≡ map (λ (e : Epoch). e.entries) (drop 1 es)
 other-entries [] = refl
 other-entries (e ∷ es) = refl
-
-same-filled : (m : Mode) → mode_filled m ≡ mode_filled m
-same-filled Paired = refl
-same-filled Filling = refl
-same-filled Alone = refl
-same-filled Stopped = refl
 
 pub not-alone : (m : Mode) → is_alone m ≡ false → IsAlone m → ⊥
 not-alone Paired e a = a
@@ -68,30 +62,17 @@ module _ (start : HistoryState) (steps : List Step) (r now : Record) (p q : Port
   paired : IsAlone s.mode → ⊥
   paired = subst (λ (m : Mode). IsAlone m → ⊥) t.mode (not-alone r.mode pair)
 
-  committed-history : now.journal.history ≡ r.journal.history ++ entries_of (take 1 s.sealed)
-  committed-history =
-      ap (λ (y : Record). y.journal.history) is
-      ∙ ap (λ (l : List (List Entry)). r.journal.history ++ first_of l) t.sealed
-      ∙ ap (λ (l : List Entry). r.journal.history ++ l) (first-entries s.sealed)
-
-  committed-accords : Accords start r p → Accords start now q
+  committed-accords : Accords start r p → Accords start (commit_done r).1 p
   committed-accords a =
       let many = some_moves start r p a k some in
       let moves = some-first a.journal.sealed_moves many in
       let held = some_held start r p a k many in
-      subst (λ (y : Record × PortsState). Accords start y.0 y.1) (λ i. (sym is i, sym ports i))
-      (commit_accords start r p a k moves.0 moves.1 moves.2 held.0 held.1 held.2)
+      commit_accords start r p a k moves.0 moves.1 moves.2 held.0 held.1 held.2
 
   pub committed-tied : IsTied start (steps ++ step by (commit_of c) ∷ []) now q
   committed-tied =
-      step-tied start steps r now p q t by (commit_of c) (mine, paired, generation ∙ t.generation, first) (λ none. tt)
-      (λ none. committed-history)
-      (ap (λ (y : Record). y.journal.sealed) is ∙ ap rest_of t.sealed ∙ other-entries s.sealed)
-      (ap (λ (y : Record). y.journal.running) is ∙ t.running)
-      (ap (λ (y : Record). y.mode) is ∙ ap mode_filled t.mode ∙ same-filled s.mode)
-      (ap (λ (y : Record). y.generation) is ∙ t.generation)
-      (ap (λ (y : Record). y.window.to_cut) is ∙ t.next)
-      (ap (λ (x : PortsState). length x.boxes) ports)
-      (tied-still start steps r p q t (commit_of c) tt (ap (λ (x : PortsState). x.next) ports)
-      (ap (λ (x : PortsState). x.inboxes) ports) (ap (λ (x : PortsState). length x.boxes) ports))
-      (λ none. committed-accords (t.accords none))
+      tied-as is ports
+      (step-tied start steps r (commit_done r).1 p p t by (commit_of c) (mine, paired, generation ∙ t.generation, first) (λ none. tt)
+      (λ none. ap (λ l. r.journal.history ++ l) (ap first_of t.sealed ∙ first-entries s.sealed))
+      (ap rest_of t.sealed ∙ other-entries s.sealed) t.running (ap mode_filled t.mode) t.generation t.next refl
+      (tied-still start steps r p p t (commit_of c) tt refl refl refl) (λ none. committed-accords (t.accords none)))
