@@ -1,11 +1,10 @@
 -- What a commit keeps of the tie.
 use Rattle.std.proofs.Common.{◌≡◌, ℕ, ◌<◌, List, [], ◌∷◌, ◌++◌, length, map, take, drop, refl, sym, ap, ◌∙◌, subst, false, arith}
-use Rattle.std.proofs.lemmas.List.{append-nil, length-map}
+use Rattle.std.proofs.lemmas.List.{append-nil}
 use Rattle.failover.specs.declared.mode.Mode.{Mode}
 use Rattle.failover.specs.declared.mode.Mode.TheVariants.{Paired, Filling, Alone, Stopped}
 use Rattle.epoch_snapshot.specs.Checkpoints.{Change}
 use Rattle.frame_ports.specs.Ports.{PortsState}
-use Rattle.pair_history.specs.Entries.{Entry}
 use Rattle.pair_history.specs.HistoryState.{HistoryState}
 use Rattle.pair_record.specs.Journal.{first_of, rest_of}
 use Rattle.pair_record.specs.Modes.{is_alone}
@@ -18,7 +17,7 @@ use Rattle.growing_history.specs.LogState.{LogState, Epoch, state_at, entries_of
 use Rattle.growing_history.specs.laws.Sealed.{first-sealed}
 use Rattle.pair_book.specs.Commits.{commit_of}
 use Rattle.pair_book.specs.internal.Tie.{IsTied}
-use Rattle.pair_book.proofs.Ties.{step-tied, tied-as, tied-still}
+use Rattle.pair_book.proofs.Ties.{step-tied, sealed-long, tied-as, tied-still}
 use Rattle.failover.specs.Modes.{mode_filled}
 
 -- the first of the sealed epochs, and the others
@@ -52,11 +51,9 @@ module _ (start : HistoryState) (steps : List Step) (r now : Record) (p q : Port
   abbrev s : LogState
   s = state_at start steps
 
-  long : length r.journal.sealed ≡ length s.sealed
-  long = ap (λ (l : List (List Entry)). length l) t.sealed ∙ length-map s.sealed (λ (e : Epoch). e.entries)
-
   first : IsFirstSealed c.number s.sealed
   first =
+      let long = sealed-long start steps r p t in
       first-sealed start steps t.legal c.number (omega (arith, number, long, k.sealed, t.next)) (omega (arith, number, some, t.next))
 
   paired : IsAlone s.mode → ⊥

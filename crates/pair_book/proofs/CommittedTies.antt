@@ -33,7 +33,7 @@ use Rattle.pair_book.specs.Standing.{first_sent, commits_after, commits_of}
 use Rattle.pair_book.specs.internal.{Tie.IsTied, Committed.{AreOwed, KeepsCommitted}}
 use Rattle.pair_book.proofs.CommittedLaws.{commits-nil, commits-snoc, owed_on, owed_committed, owed_acked}
 use Rattle.pair_book.proofs.CommitTies.{first-entries, some-first}
-use Rattle.pair_book.proofs.FailureTies.{shown, is_paired}
+use Rattle.pair_book.proofs.{FailureTies.is_paired, Ties.shown}
 
 -- AT THE START
 pub start-keeps : (start : HistoryState) (r : Record) (p : PortsState) → r ≡ start_record → KeepsCommitted start [] r p
@@ -164,7 +164,7 @@ module _ (start : HistoryState) (steps : List Step) (r now : Record) (p q : Port
         let moves = some-first a.journal.sealed_moves many in
         let held = some_held start r p a k many in
         let ms = moves.0 in
-        let here = shown start steps r r p p t m in
+        let here = shown start steps r p t m in
         let entries : log.entries_of (take 1 s.sealed) ≡ entries_of ms =
         sym (first-entries s.sealed) ∙ ap first_of (sym t.sealed) ∙ first_is start r p a k ms moves.1 moves.2 in
         let sent : first_sent s ≡ held.0.frames =

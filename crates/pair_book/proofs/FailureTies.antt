@@ -12,7 +12,6 @@ use Rattle.pair_history.specs.HistoryState.{HistoryState, at}
 use Rattle.pair_history.specs.HistoryState as history
 use Rattle.pair_history.specs.{Failures.all_land, Landings.{landings, DropsAtFull}}
 use Rattle.pair_history.specs.Moves.{Move}
-use Rattle.pair_history.specs.laws.Histories.{at-append}
 use Rattle.frame_ports.specs.laws.Lands.{length-lands}
 use Rattle.pair_history.specs.laws.Moves.{moved}
 use Rattle.pair_history.specs.laws.Waits.{AreQuiet-landings}
@@ -27,10 +26,9 @@ use Rattle.pair_record.specs.laws.Accords.{sealed_state, owed_with}
 use Rattle.pair_record.specs.laws.{Clients.{ack_accords, ack_lands}, Handed.fail_within_accords, NewBackups.begin_accords}
 use Rattle.growing_history.specs.Steps.{Step, step, Added, PrimaryFailed, BackupFailed, Protected}
 use Rattle.growing_history.specs.LogState.{LogState, state_at, under_way, entries_of, added, IsOwn, AreOwn, AreKnown, HasBackup, IsAlone, IsNew}
-use Rattle.growing_history.specs.laws.Logs.{history-stands}
 use Rattle.growing_history.specs.laws.Waiting.{same-wait}
 use Rattle.pair_book.specs.internal.Tie.{IsTied}
-use Rattle.pair_book.proofs.{Ties.{step-tied, sealed-joined, gained-there, tied-as, tied-still}, Waits.still-waiting}
+use Rattle.pair_book.proofs.{Ties.{step-tied, shown, sealed-are, sealed-there, gained-there, tied-as, tied-still}, Waits.still-waiting}
 
 -- what an acknowledgement lets land
 abbrev pub landed_by : List (List Frame) → Record → ℕ → List Entry
@@ -92,10 +90,6 @@ module _ (start : HistoryState) (steps : List Step) (r now : Record) (p q : Port
   abbrev s : LogState
   s = state_at start steps
 
-  -- the history's state is the one that clients see
-  pub shown : s.marked ≡ 0 → s.history ≡ shown_at start r
-  shown none = history-stands start steps ∙ ap (at start) (sym (t.history none))
-
   -- THE PRIMARY FAILS
   module _ (free : change_refusal changes.FailPrimary r.mode ≡ None) (is : now ≡ (fail_primary_done r).1) (ports : q ≡ p) where
     pub primary-tied : IsTied start (steps ++ step 0 PrimaryFailed ∷ []) now q
@@ -116,18 +110,14 @@ module _ (start : HistoryState) (steps : List Step) (r now : Record) (p q : Port
     all_land-is a none =
         let ms : List Move = sealed_now start r p a in
         let here = shown_at start r in
-        let sealed : entries_of s.sealed ≡ joined r.journal.sealed = sym (ap joined t.sealed ∙ sealed-joined s.sealed) in
-        let there : at s.history (entries_of s.sealed) ≡ at start (r.journal.history ++ joined r.journal.sealed) =
-        (λ i. at (shown none i) (sealed i)) ∙ sym (at-append start r.journal.history (joined r.journal.sealed)) in
         let out : (moved here ms).out ≡ all_held p.boxes [] r =
         ap (λ (xs : List Move). (moved here xs).out) (sym (append-nil ms)) ∙ sym (owed_with start r p a [] [] refl) in
-        ap all_land (there ∙ sealed_state start r p a) ∙ (λ i. landings (sym a.clients.boxes i) (out i))
+        ap all_land (sealed-there start steps r p t none ∙ sealed_state start r p a) ∙ (λ i. landings (sym a.clients.boxes i) (out i))
 
     failed-history : s.marked ≡ 0 → (fail_within_done p.boxes r).1.journal.history ≡ r.journal.history ++ added s BackupFailed
     failed-history none =
         let a = t.accords none in
-        let sealed : joined r.journal.sealed ++ [] ≡ entries_of s.sealed =
-        append-nil (joined r.journal.sealed) ∙ ap joined t.sealed ∙ sealed-joined s.sealed in
+        let sealed = append-nil (joined r.journal.sealed) ∙ sym (sealed-are start steps r p t) in
         append_assoc r.journal.history (joined r.journal.sealed ++ []) (landings p.boxes (all_held p.boxes [] r))
         ∙ (λ i. r.journal.history ++ (sealed i ++ sym (all_land-is a none) i))
 
@@ -159,7 +149,7 @@ module _ (start : HistoryState) (steps : List Step) (r now : Record) (p q : Port
 
     landed-known : s.marked ≡ 0 → AreKnown (under_way s) s.history 0 landed
     landed-known none =
-        subst (λ (h : HistoryState). AreKnown (under_way s) h 0 landed) (sym (shown none))
+        subst (λ (h : HistoryState). AreKnown (under_way s) h 0 landed) (sym (shown start steps r p t none))
         (full-known (under_way s) p.boxes (let_go p.boxes r n) (shown_at start r) (ack_lands start r p (t.accords none) k n below).2)
 
     pub acked-gained : (m : ℕ) (h : List Entry) → m ≡ length r.journal.history → h ≡ now.journal.history → drop m h ≡ landed

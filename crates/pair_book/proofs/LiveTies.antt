@@ -1,7 +1,7 @@
 -- What is kept of the tie where the backup goes live, and the table of refusals.
 use Rattle.std.proofs.Common.{◌≡◌, ℕ, ◌+◌, ◌<◌, ◌≤◌, List, [], ◌∷◌, ◌++◌, length, refl, sym, ap, ◌∙◌, subst, Bool, true, false}
 use Rattle.std.proofs.Common.{Option, Some, None, arith}
-use Rattle.std.proofs.lemmas.{Bool.eqb-true, List.length-map}
+use Rattle.std.proofs.lemmas.{Bool.eqb-true}
 use Rattle.std.specs.Prelude.{nat_le, not}
 use Rattle.failover.specs.declared.change.Change.TheVariants as changes
 use Rattle.failover.specs.declared.mode.Mode.{Mode}
@@ -23,12 +23,12 @@ use Rattle.pair_record.specs.laws.Owed.{brought_ports, brought_landings}
 use Rattle.std.proofs.lemmas.Bool.{leb-false}
 use Rattle.pair_record.specs.laws.Live.{entries_are, live_accords}
 use Rattle.growing_history.specs.Steps.{Step, step, WentLive, Begins, steps_by}
-use Rattle.growing_history.specs.LogState.{LogState, Epoch, state_at, added, IsNew}
+use Rattle.growing_history.specs.LogState.{LogState, state_at, added, IsNew}
 use Rattle.growing_history.specs.Views.{Member}
 use Rattle.pair_book.specs.{Books.BookState, Calls.is_word_full, Failures.first_of, Standing.KeepsFrames}
 use Rattle.pair_book.specs.GoingLive.{is_backup, go_live_rows, go_live_why}
 use Rattle.pair_book.specs.internal.{Committed.KeepsCommitted, Tie.IsTied}
-use Rattle.pair_book.proofs.{CommittedSeals.live-keeps, FailureTies.shown, StandingLaws.frames-bring, Ties.{step-tied, tied-as, tied-still, way-is}}
+use Rattle.pair_book.proofs.{CommittedSeals.live-keeps, StandingLaws.frames-bring, Ties.{step-tied, shown, sealed-long, tied-as, tied-still, way-is}}
 use Rattle.pair_book.proofs.Words.{word_room}
 
 pub has_stopped : (m : Mode) → change_refusal changes.GoLive m ≡ None → m ≡ Stopped
@@ -109,12 +109,9 @@ module _ (start : HistoryState) (steps : List Step) (r now : Record) (p q : Port
     abbrev went : Record
     went = (brought_done r p first kept done).1
 
-    long : length r.journal.sealed ≡ length s.sealed
-    long = ap (λ (l : List (List Entry)). length l) t.sealed ∙ length-map s.sealed (λ (e : Epoch). e.entries)
-
     live-history : s.marked ≡ 0 → went.journal.history ≡ r.journal.history ++ added s (WentLive runner)
     live-history none =
-        let here = shown start steps r now p q t none in
+        let here = shown start steps r p t none in
         let way = way-is start steps r p t in
         ap (λ (es : List Entry). r.journal.history ++ entries_with es r.journal)
         (brought_landings r p numbered first kept (brings none))
@@ -131,6 +128,7 @@ module _ (start : HistoryState) (steps : List Step) (r now : Record) (p q : Port
 
     pub live-tied : IsTied start (steps ++ step 0 (WentLive runner) ∷ []) now q
     live-tied =
+        let long = sealed-long start steps r p t in
         let rest = rest_same-after p first (brought r first kept) in
         let boxes = (risen-after p first (brought r first kept)).clients in
         let q' = ports_after_brought p r first kept in

@@ -6,14 +6,15 @@ use Rattle.pair_history.specs.HistoryState.{HistoryState, at}
 use Rattle.pair_history.specs.HistoryState as history
 use Rattle.pair_history.specs.Order.{AreGuests}
 use Rattle.pair_history.specs.laws.Moves.{Legal-moves}
-use Rattle.pair_history.specs.laws.Histories.{Legal-append}
+use Rattle.std.proofs.lemmas.List.{length-map}
+use Rattle.pair_history.specs.laws.Histories.{Legal-append, at-append}
 use Rattle.pair_record.specs.Journal.{Journal, joined, kept_entries, with_history}
-use Rattle.pair_record.specs.Protocol.{Record}
+use Rattle.pair_record.specs.Protocol.{Record, shown_at}
 use Rattle.pair_record.specs.Accords.{Accords, kept_moves}
 use Rattle.pair_record.specs.laws.Accords.{kept_is}
 use Rattle.growing_history.specs.Steps.{What, Step, step, Added}
 use Rattle.growing_history.specs.LogState.{LogState, Epoch, LegalSteps, Needs, MayStep, DropsKnown, AreOwn, AreKnown}
-use Rattle.growing_history.specs.LogState.{state_at, history_of, entries_of, under_way, added, after_step}
+use Rattle.growing_history.specs.LogState.{state_at, sealed_state, history_of, entries_of, under_way, added, after_step}
 use Rattle.growing_history.specs.laws.Logs.{goes-on, state-snoc, history-snoc, history-stands, marked}
 use Rattle.pair_history.specs.laws.Histories.{legal-second}
 use Rattle.growing_history.specs.Waiting.{IsStill}
@@ -40,6 +41,21 @@ kept-way j s sealed running = (λ i. joined (sealed i) ++ running i) ∙ ap (λ 
 pub way-is : (start : HistoryState) (steps : List Step) (r : Record) (p : PortsState) → IsTied start steps r p
     → kept_entries r.journal ≡ under_way (state_at start steps)
 way-is start steps r p t = kept-way r.journal (state_at start steps) t.sealed t.running
+
+-- what is sealed is what the record has sealed, and goes on from the state that clients see
+module _ (start : HistoryState) (steps : List Step) (r : Record) (p : PortsState) (t : IsTied start steps r p) where
+  pub shown : (state_at start steps).marked ≡ 0 → (state_at start steps).history ≡ shown_at start r
+  shown none = history-stands start steps ∙ ap (at start) (sym (t.history none))
+
+  pub sealed-are : entries_of (state_at start steps).sealed ≡ joined r.journal.sealed
+  sealed-are = sym (ap joined t.sealed ∙ sealed-joined (state_at start steps).sealed)
+
+  pub sealed-there : (state_at start steps).marked ≡ 0
+      → sealed_state (state_at start steps) ≡ at start (r.journal.history ++ joined r.journal.sealed)
+  sealed-there none = (λ i. at (shown none i) (sealed-are i)) ∙ sym (at-append start r.journal.history (joined r.journal.sealed))
+
+  pub sealed-long : length r.journal.sealed ≡ length (state_at start steps).sealed
+  sealed-long = ap length t.sealed ∙ length-map (state_at start steps).sealed (λ (e : Epoch). e.entries)
 
 -- what is sealed is the guest's
 pub tied-guests : (start : HistoryState) (steps : List Step) (r : Record) (p : PortsState) → IsTied start steps r p
