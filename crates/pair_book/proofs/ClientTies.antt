@@ -59,7 +59,7 @@ is-why rows wants (NoMemory w) h = subst (λ (o : Option Refusal). IsWhy o (NoMe
 is-why rows wants other e = subst (λ (o : Option Refusal). IsWhy o other) (sym e) refl
 
 -- TAKE
-module _ (start : HistoryState) (steps : List Step) (r now : Record) (p q : PortsState) (t : IsTied start steps r p) (by : ℕ)
+module _ {start : HistoryState} {steps : List Step} {r now : Record} {p q : PortsState} (t : IsTied start steps r p) (by : ℕ)
     (seat : IsClientSeat start by)
     (is : now ≡ (take_done p.boxes r (client_of by)).1) (ports : q ≡ ports_after_take p (client_of by)) where
   abbrev c : ℕ
@@ -85,7 +85,7 @@ module _ (start : HistoryState) (steps : List Step) (r now : Record) (p q : Port
       (λ a. take_accords start r p a c high.0 high.1))
 
 -- DELIVER, and at a full inbox
-module _ (start : HistoryState) (steps : List Step) (r now : Record) (p q : PortsState) (t : IsTied start steps r p) (by : ℕ)
+module _ {start : HistoryState} {steps : List Step} {r : Record} {p : PortsState} (t : IsTied start steps r p) (by : ℕ)
     (seat : IsClientSeat start by) (bytes : List ℕ) (frame : IsFrame (record { items = bytes })) where
   abbrev d : ℕ
   d = client_of by
@@ -93,7 +93,7 @@ module _ (start : HistoryState) (steps : List Step) (r now : Record) (p q : Port
   abbrev sent : Frame
   sent = record { items = bytes }
 
-  module _ (is : now ≡ (deliver_done r d sent p.next).1) (ports : q ≡ after_delivery p d bytes) where
+  module _ {now : Record} {q : PortsState} (is : now ≡ (deliver_done r d sent p.next).1) (ports : q ≡ after_delivery p d bytes) where
     abbrev delivered : Entry
     delivered = Delivered d sent p.next
 
@@ -108,7 +108,7 @@ module _ (start : HistoryState) (steps : List Step) (r now : Record) (p q : Port
         (delivered-waiting (state_at start steps) p t.waits (tied-guests start steps r p t) d high.0 high.1 bytes)
         (λ a. deliver_accords start r p a d high.0 high.1 bytes frame))
 
-  module _ (full : inbox_frames ≤ length (list_of p.inboxes d))
+  module _ {now : Record} {q : PortsState} (full : inbox_frames ≤ length (list_of p.inboxes d))
       (is : now ≡ record r { journal = with_history r.journal (Refused d sent ∷ []) }) (ports : q ≡ p) where
     abbrev refused : Entry
     refused = Refused d sent

@@ -39,7 +39,7 @@ pub some-first : {A : Type 0} (xs : List A) → 0 < length xs → (x : A) × (re
 some-first [] l = absurd (omega (arith, l))
 some-first (x ∷ xs) l = (x, xs, refl)
 
-module _ (start : HistoryState) (steps : List Step) (r now : Record) (p q : PortsState) (t : IsTied start steps r p) (by : ℕ) (c : Change)
+module _ {start : HistoryState} {steps : List Step} {r now : Record} {p q : PortsState} (t : IsTied start steps r p) (by : ℕ) (c : Change)
     (k : IsRecord r)
     (mine : by ≡ (state_at start steps).backup)
     (pair : is_alone r.mode ≡ false)

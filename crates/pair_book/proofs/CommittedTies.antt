@@ -59,7 +59,10 @@ step-keeps start steps r now p q h by what made none owed =
     let there = state-snoc start steps (step by what) in
     let goes = commits-snoc start steps (step by what) in
     let before : (state_at start (steps ++ step by what ∷ [])).marked ≡ 0 → (state_at start steps).marked ≡ 0 =
-    λ m. let least = marked (state_at start steps) what in let same = ap (λ (u : LogState). u.marked) there in omega (arith, least, same, m) in
+    λ m.
+    let least = marked (state_at start steps) what in
+    let same = ap (λ (u : LogState). u.marked) there in
+    omega (arith, least, same, m) in
     record {
       none = λ z. goes ∙ none z;
       owed = λ m a c. subst (AreOwed now q) (sym goes) (owed (before m) a c);
@@ -76,18 +79,12 @@ added-keeps start steps r p q h by es boxes numbers =
     (λ m a c. owed_on r p (commits_of start steps) (h.owed m a c) now q refl refl (risen-same p q boxes numbers))
 
 -- what a call leaves is the record and the ports that it makes
-pub keeps-as : {start : HistoryState} {steps : List Step} {r now : Record} {p q : PortsState} → now ≡ r → q ≡ p → KeepsCommitted start steps r p
-    → KeepsCommitted start steps now q
+pub keeps-as : {start : HistoryState} {steps : List Step} {r now : Record} {p q : PortsState} → now ≡ r → q ≡ p
+    → KeepsCommitted start steps r p → KeepsCommitted start steps now q
 keeps-as {start} {steps} is ports h =
     subst (λ (y : Record × PortsState). KeepsCommitted start steps y.0 y.1) (λ i. (sym is i, sym ports i)) h
 
-module _ (start : HistoryState) (steps : List Step) (r now : Record) (p q : PortsState) (h : KeepsCommitted start steps r p) (by : ℕ) where
-  abbrev s : LogState
-  s = state_at start steps
-
-  abbrev lists : List (List Frame)
-  lists = commits_of start steps
-
+module _ {start : HistoryState} {steps : List Step} {r now : Record} {p q : PortsState} (h : KeepsCommitted start steps r p) (by : ℕ) where
   -- each call of a client, and each loss
   pub took-keeps : (c : ℕ) → now ≡ (take_done p.boxes r c).1 → q ≡ ports_after_take p c
       → KeepsCommitted start (steps ++ step by (Added (Took c (slice_get (list_of p.boxes c) 0) ∷ [])) ∷ []) now q
@@ -120,9 +117,9 @@ module _ (start : HistoryState) (steps : List Step) (r now : Record) (p q : Port
   -- AN ACKNOWLEDGEMENT, with a step or without
   module _ (n : ℕ) (k : IsRecord r) (numbered : AreNumbered r p) (clients : length p.numbers ≡ length p.boxes)
       (below : n < r.window.to_commit) (is : now ≡ (ack_done p.boxes r n).1) (ports : q ≡ ports_after_ack p r n) where
-    acked-owed : s.marked ≡ 0 → is_alone r.mode ≡ false → 1 ≤ r.window.to_cut
-        → AreOwed (ack_done p.boxes r n).1 (ports_after_ack p r n) lists
-    acked-owed m a c = owed_acked r p lists (h.owed m a c) k numbered clients n below
+    acked-owed : (state_at start steps).marked ≡ 0 → is_alone r.mode ≡ false → 1 ≤ r.window.to_cut
+        → AreOwed (ack_done p.boxes r n).1 (ports_after_ack p r n) (commits_of start steps)
+    acked-owed m a c = owed_acked r p (commits_of start steps) (h.owed m a c) k numbered clients n below
 
     pub acked-keeps : (es : List Entry) → KeepsCommitted start (steps ++ step by (Added es) ∷ []) now q
     acked-keeps es =
@@ -139,7 +136,8 @@ module _ (start : HistoryState) (steps : List Step) (r now : Record) (p q : Port
       let stopped = (fail_primary_done r).1 in
       keeps-as is ports
       (step-keeps start steps r stopped p p h by PrimaryFailed tt h.none
-      (λ m a c. owed_on r p lists (h.owed m (ap is_alone (is_paired r.mode free)) c) stopped p refl refl (risen-same p p refl refl)))
+      (λ m a c.
+      owed_on r p (commits_of start steps) (h.owed m (ap is_alone (is_paired r.mode free)) c) stopped p refl refl (risen-same p p refl refl)))
 
   -- THE BACKUP FAILS: a node is alone
   pub backup-keeps : IsRecord r → now ≡ (fail_within_done p.boxes r).1 → KeepsCommitted start (steps ++ step by BackupFailed ∷ []) now q
@@ -157,7 +155,8 @@ module _ (start : HistoryState) (steps : List Step) (r now : Record) (p q : Port
   -- A COMMIT
   module _ (t : IsTied start steps r p) (c : Change) (k : IsRecord r) (numbered : AreNumbered r p) (pair : is_alone r.mode ≡ false)
       (some : r.window.to_commit < r.window.to_cut) (is : now ≡ (commit_done r).1) (ports : q ≡ p) where
-    committed-owed : s.marked ≡ 0 → AreOwed (commit_done r).1 p (lists ++ first_sent s ∷ [])
+    committed-owed : (state_at start steps).marked ≡ 0
+        → AreOwed (commit_done r).1 p (commits_of start steps ++ first_sent (state_at start steps) ∷ [])
     committed-owed m =
         let a = t.accords m in
         let many = some_moves start r p a k some in
@@ -165,15 +164,15 @@ module _ (start : HistoryState) (steps : List Step) (r now : Record) (p q : Port
         let held = some_held start r p a k many in
         let ms = moves.0 in
         let here = shown start steps r p t m in
-        let entries : log.entries_of (take 1 s.sealed) ≡ entries_of ms =
-        sym (first-entries s.sealed) ∙ ap first_of (sym t.sealed) ∙ first_is start r p a k ms moves.1 moves.2 in
-        let sent : first_sent s ≡ held.0.frames =
+        let entries : log.entries_of (take 1 (state_at start steps).sealed) ≡ entries_of ms =
+        sym (first-entries (state_at start steps).sealed) ∙ ap first_of (sym t.sealed) ∙ first_is start r p a k ms moves.1 moves.2 in
+        let sent : first_sent (state_at start steps) ≡ held.0.frames =
         (λ i. sent_along (here i) (entries i))
         ∙ sent_along-moves (shown_at start r) ms (can_first start r p a k ms moves.1 moves.2)
         ∙ sym (first_sends start r p a k ms moves.1 moves.2 held.0 held.1 held.2) in
         let before = h.owed m pair (omega (arith, some)) in
-        subst (λ (fs : List Frame). AreOwed (commit_done r).1 p (lists ++ fs ∷ [])) (sym sent)
-        (owed_committed r p lists before k numbered.held held.0 held.1 held.2)
+        subst (λ (fs : List Frame). AreOwed (commit_done r).1 p (commits_of start steps ++ fs ∷ [])) (sym sent)
+        (owed_committed r p (commits_of start steps) before k numbered.held held.0 held.1 held.2)
 
     pub committed-keeps : KeepsCommitted start (steps ++ step by (commit_of c) ∷ []) now q
     committed-keeps =

@@ -86,12 +86,13 @@ full-known way b [] h d = tt
 full-known way b (x ∷ xs) h d =
     full-known-one way x.0 (landings (landed_at b x.0 x.1) xs) h (λ t e. full-known way (landed_at b x.0 x.1) xs t e) (has_room b x.0) d
 
-module _ (start : HistoryState) (steps : List Step) (r now : Record) (p q : PortsState) (t : IsTied start steps r p) where
+module _ {start : HistoryState} {steps : List Step} {r : Record} {p : PortsState} (t : IsTied start steps r p) where
   abbrev s : LogState
   s = state_at start steps
 
   -- THE PRIMARY FAILS
-  module _ (free : change_refusal changes.FailPrimary r.mode ≡ None) (is : now ≡ (fail_primary_done r).1) (ports : q ≡ p) where
+  module _ {now : Record} {q : PortsState} (free : change_refusal changes.FailPrimary r.mode ≡ None)
+      (is : now ≡ (fail_primary_done r).1) (ports : q ≡ p) where
     pub primary-tied : IsTied start (steps ++ step 0 PrimaryFailed ∷ []) now q
     primary-tied =
         tied-as is ports
@@ -103,8 +104,8 @@ module _ (start : HistoryState) (steps : List Step) (r now : Record) (p q : Port
         stopped a = record { journal = a.journal; frames = a.frames; clients = a.clients; owed = a.owed }
 
   -- THE BACKUP FAILS
-  module _ (free : change_refusal changes.FailBackup r.mode ≡ None) (is : now ≡ (fail_within_done p.boxes r).1)
-      (ports : q ≡ ports_after_all p [] r) where
+  module _ {now : Record} {q : PortsState} (free : change_refusal changes.FailBackup r.mode ≡ None)
+      (is : now ≡ (fail_within_done p.boxes r).1) (ports : q ≡ ports_after_all p [] r) where
     -- what is on its way once what is sealed is committed is what the gate holds
     all_land-is : Accords start r p → s.marked ≡ 0 → all_land (at s.history (entries_of s.sealed)) ≡ landings p.boxes (all_held p.boxes [] r)
     all_land-is a none =
@@ -131,18 +132,19 @@ module _ (start : HistoryState) (steps : List Step) (r now : Record) (p q : Port
         (tied-still start steps r p q' t BackupFailed tt refl refl boxes) (λ none. fail_within_accords start r p (t.accords none)))
 
   -- A NEW BACKUP
-  module _ (b : ℕ) (new : IsNew s b) (free : change_refusal changes.Protect r.mode ≡ None) (k : IsRecord r) (is : now ≡ (begin_done r).1)
-      (ports : q ≡ p) where
+  module _ {now : Record} {q : PortsState} (b : ℕ) (new : IsNew s b) (free : change_refusal changes.Protect r.mode ≡ None)
+      (k : IsRecord r) (is : now ≡ (begin_done r).1) (ports : q ≡ p) where
     pub protected-tied : IsTied start (steps ++ step 0 (Protected b) ∷ []) now q
     protected-tied =
         let lone = is_lone r.mode free in
         tied-as is ports
         (step-tied start steps r (begin_done r).1 p p t 0 (Protected b) (refl, subst IsAlone t.mode lone.0, new) (λ none. tt)
         (λ none. sym (append-nil r.journal.history)) t.sealed t.running refl (ap (λ n. n + 1) t.generation) refl refl
-        (tied-still start steps r p p t (Protected b) tt refl refl refl) (λ none. begin_accords start r p (t.accords none) (k.alone lone.1)))
+        (tied-still start steps r p p t (Protected b) tt refl refl refl)
+        (λ none. begin_accords start r p (t.accords none) (k.alone lone.1)))
 
   -- AN ACKNOWLEDGEMENT that lets frames go
-  module _ (n : ℕ) (k : IsRecord r) (below : n < r.window.to_commit) (is : now ≡ (ack_done p.boxes r n).1)
+  module _ {now : Record} {q : PortsState} (n : ℕ) (k : IsRecord r) (below : n < r.window.to_commit) (is : now ≡ (ack_done p.boxes r n).1)
       (ports : q ≡ ports_after_ack p r n) where
     abbrev pub landed : List Entry
     landed = landings p.boxes (let_go p.boxes r n)

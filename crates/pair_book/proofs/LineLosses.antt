@@ -40,10 +40,8 @@ module _ (start : HistoryState) (steps : List Step) (r now : RecordState) (tied 
         there = ap (option_map (λ (x : ℕ × Frame). DropIn x.0)) lost.2;
         is = lost.3;
         ports = ports;
-        tied =
-            lost-in-tied start steps r.protocol now.protocol r.ports now.ports tied c place lost.4 lost.5 lost.0 lost.1 lost.2 lost.3 ports;
-        committed =
-            lost-in-keeps start steps r.protocol now.protocol r.ports now.ports keeps line_seat c place lost.0 lost.3 ports;
+        tied = lost-in-tied tied c place lost.4 lost.5 lost.0 lost.1 lost.2 lost.3 ports;
+        committed = lost-in-keeps keeps line_seat c place lost.0 lost.3 ports;
       }
 
   -- from a box
@@ -61,10 +59,8 @@ module _ (start : HistoryState) (steps : List Step) (r now : RecordState) (tied 
         there = lost.0;
         is = lost.2;
         ports = ports;
-        tied =
-            lost-out-tied start steps r.protocol now.protocol r.ports now.ports tied c place lost.3 lost.4 lost.1 few lost.2 ports;
-        committed =
-            lost-out-keeps start steps r.protocol now.protocol r.ports now.ports keeps line_seat c place lost.2 ports;
+        tied = lost-out-tied tied c place lost.3 lost.4 lost.1 few lost.2 ports;
+        committed = lost-out-keeps keeps line_seat c place lost.2 ports;
       }
 
 module _ (start : HistoryState) (seats : Keeper) (r now : RecordState) (texts : TextsState) (line : Member) (number : line.number ≡ line_seat)

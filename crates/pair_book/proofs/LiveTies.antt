@@ -86,7 +86,7 @@ live_may start b number first kept e =
       room = word_room b rows.3;
     }
 
-module _ (start : HistoryState) (steps : List Step) (r now : Record) (p q : PortsState) (t : IsTied start steps r p)
+module _ {start : HistoryState} {steps : List Step} {r : Record} {p : PortsState} (t : IsTied start steps r p)
     (c : KeepsCommitted start steps r p) (k : IsRecord r) (numbered : AreNumbered r p) (free : change_refusal changes.GoLive r.mode ≡ None)
     (seat : Member) (mine : seat.number ≡ (state_at start steps).backup) (b : Begins seat.steps steps)
     (own : steps_by seat.number steps ≡ steps_by seat.number seat.steps)
@@ -104,7 +104,7 @@ module _ (start : HistoryState) (steps : List Step) (r now : Record) (p q : Port
       frames-bring start seat steps sent first kept b t.legal own stands r p t c k numbered (ap is_alone stopped)
       (omega (arith, filled, k.window.cut)) mine none
 
-  module _ (runner done : ℕ) (new : IsNew s runner) (is : now ≡ (brought_done r p first kept done).1)
+  module _ {now : Record} {q : PortsState} (runner done : ℕ) (new : IsNew s runner) (is : now ≡ (brought_done r p first kept done).1)
       (ports : q ≡ ports_after_brought p r first kept) where
     abbrev went : Record
     went = (brought_done r p first kept done).1

@@ -57,7 +57,7 @@ taken-by-none start r p a c place n f low high there =
     (none-takes n 1 p.next (without_number n s.waiting) ms (AreRising-without n 1 p.next s.waiting a.clients.rising) before.1
     (gone n 1 p.next s.waiting a.clients.rising))
 
-module _ (start : HistoryState) (steps : List Step) (r now : Record) (p q : PortsState) (t : IsTied start steps r p) (c place : ℕ)
+module _ {start : HistoryState} {steps : List Step} {r now : Record} {p q : PortsState} (t : IsTied start steps r p) (c place : ℕ)
     (low : 1 ≤ c) (high : c ≤ length p.boxes) where
   -- LOSEIN
   module _ (n : ℕ) (f : Frame) (there : slice_get (list_of p.inboxes c) place ≡ Some (n, f)) (is : now ≡ (loss_done r (DropIn n)).1)
