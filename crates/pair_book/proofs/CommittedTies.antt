@@ -137,7 +137,8 @@ module _ {start : HistoryState} {steps : List Step} {r now : Record} {p q : Port
       keeps-as is ports
       (step-keeps start steps r stopped p p h by PrimaryFailed tt h.none
       (λ m a c.
-      owed_on r p (commits_of start steps) (h.owed m (ap is_alone (is_paired r.mode free)) c) stopped p refl refl (risen-same p p refl refl)))
+      owed_on r p (commits_of start steps) (h.owed m (ap is_alone (is_paired r.mode free)) c) stopped p refl refl
+      (risen-same p p refl refl)))
 
   -- THE BACKUP FAILS: a node is alone
   pub backup-keeps : IsRecord r → now ≡ (fail_within_done p.boxes r).1 → KeepsCommitted start (steps ++ step by BackupFailed ∷ []) now q

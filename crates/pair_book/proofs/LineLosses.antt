@@ -83,8 +83,7 @@ module _ (start : HistoryState) (seats : Keeper) (r now : RecordState) (texts : 
         → seats' ≡ record seats { steps = seats.steps ++ step line.number (Added (drop n now.protocol.journal.history)) ∷ [] }
         → HasTexts start seats'.steps now.protocol texts.packets
     told-texts had seats' keeper =
-        texts-added start seats.steps seats'.steps r.protocol now.protocol texts.packets had line.number
-        (drop n now.protocol.journal.history) (ap (λ (k : Keeper). k.steps) keeper)
+        texts-added had line.number (drop n now.protocol.journal.history) (ap (λ (k : Keeper). k.steps) keeper)
         (ap (λ (y : Record). y.generation) d.is) (ap (λ (y : Record). y.window) d.is)
 
     pub dropped : (old : BookState) → book_state seats r texts ≡ old → (seats' : Keeper) (seat seat' : Member) → line ≡ seat

@@ -33,7 +33,8 @@ use Rattle.pair_book.specs.Handing.{handing, handed_next}
 use Rattle.pair_book.specs.Settled.{epoch_of}
 use Rattle.pair_book.specs.internal.{Tie.IsTied, Waits.AreWaiting}
 use Rattle.pair_book.specs.laws.EpochWords.{epoch-is, rest-is, epoch-guests, is-epoch, handed-parts, entered-wait}
-use Rattle.pair_book.proofs.{HandedNext.{Hands, hands, running_as}, Ties.{step-tied, shown, sealed-are, sealed-there, tied-as, tied-guests}, Waits.still-waiting}
+use Rattle.pair_book.proofs.{HandedNext.{Hands, hands, running_as}, Waits.still-waiting}
+use Rattle.pair_book.proofs.Ties.{step-tied, shown, sealed-are, sealed-there, tied-as, tied-guests}
 
 pub entries-push : (es : List Epoch) (e : Epoch) → entries_of (es ++ e ∷ []) ≡ entries_of es ++ e.entries
 entries-push [] e = append-nil e.entries

@@ -59,9 +59,8 @@ left : (g : _) (c : After-drop_to g) (is : c.acknowledge.new.self.protocol
     → c.args.ack.number < c.self.inside.record.protocol.window.to_commit
     → HasTexts g.P.Pair.start c.self.inside.seats.steps c.acknowledge.new.self.protocol c.drop_to.new.self.packets
 left g c is low =
-    texts-left g.P.Pair.start c.self.inside.seats.steps c.self.inside.record.protocol c.acknowledge.new.self.protocol
-    c.self.inside.texts.packets c.drop_to.new.self.packets c.self.invariant.2 c.keep.ensures.record c.args.ack.number low
-    (ap (λ (x : Record). x.generation) is) (ap (λ (x : Record). x.window) is) (ap (λ (t : TextsState). t.packets) c.drop_to.ensures)
+    texts-left c.self.invariant.2 c.keep.ensures.record c.args.ack.number low (ap (λ (x : Record). x.generation) is)
+    (ap (λ (x : Record). x.window) is) (ap (λ (t : TextsState). t.packets) c.drop_to.ensures)
 
 pub invariant_of-self-else-len-before : goal.invariant_of-self-else-len-before
 invariant_of-self-else-len-before g c =
@@ -84,8 +83,7 @@ invariant_of-self-then-len-before g c =
     let now = c.acknowledge.new.self in (
       c.tell_alone.ensures.tied,
       c.tell_alone.ensures.committed,
-      texts-added g.P.Pair.start c.self.inside.seats.steps c.tell_alone.new.seats.steps now.protocol now.protocol
-          c.drop_to.new.self.packets (left g (goal.at.invariant_of-self-then-len-before g c).After-drop_to (is-acked g at) (below g at)) 0
+      texts-added (left g (goal.at.invariant_of-self-then-len-before g c).After-drop_to (is-acked g at) (below g at)) 0
           (drop c.len-before.result now.protocol.journal.history) (ap (λ (k : Keeper). k.steps) c.tell_alone.ensures.seats) refl refl,
     )
 

@@ -51,7 +51,6 @@ step-requires-clause-legal g c = (tied g (goal.at.step-requires-clause-legal g c
 pub invariant_of-self-2 : goal.invariant_of-self-2
 invariant_of-self-2 g c =
     let at = (goal.at.invariant_of-self-2 g c).In_ok-reply in
-    let r = c.self.inside.record in
     let now = c.commit.new.self in
     let change = c.in-Some-read.checkpoint.now in
     let may = may g at in
@@ -61,9 +60,8 @@ invariant_of-self-2 g c =
     let grown = ap (λ (k : Keeper). k.steps) c.step.ensures.keeper in (
       subst (λ (l : List Step). IsTied g.P.Pair.start l now.protocol now.ports) (sym grown) (tied g at),
       subst (λ (l : List Step). KeepsCommitted g.P.Pair.start l now.protocol now.ports) (sym grown) keeps,
-      texts-once-committed g.P.Pair.start c.self.inside.seats.steps c.step.new.self.steps r.protocol now.protocol
-          c.self.inside.texts.packets c.self.invariant.2 c.keep.ensures.record c.args.seat.now.number change.generation change.number
-          (text change) grown (ap (λ (y : Record). y.generation) done) (ap (λ (y : Record). y.window) done),
+      texts-once-committed c.self.invariant.2 c.keep.ensures.record c.args.seat.now.number change.generation change.number (text change)
+          grown (ap (λ (y : Record). y.generation) done) (ap (λ (y : Record). y.window) done),
     )
 
 pub returns-clause-done : goal.returns-clause-done

@@ -93,10 +93,8 @@ invariant_of-self g c =
     let done = is-delivered g (goal.at.invariant_of-self g c).In-Ok in (
       c.tell.ensures.tied,
       c.tell.ensures.committed,
-      texts-added g.P.Pair.start c.self.inside.seats.steps c.tell.new.seats.steps c.self.inside.record.protocol now
-          c.self.inside.texts.packets c.self.invariant.2 c.args.seat.now.number (drop c.len-before.result now.journal.history)
-          (ap (λ (k : Keeper). k.steps) c.tell.ensures.seats)
-          (ap (λ (y : Record). y.generation) done) (ap (λ (y : Record). y.window) done),
+      texts-added c.self.invariant.2 c.args.seat.now.number (drop c.len-before.result now.journal.history)
+          (ap (λ (k : Keeper). k.steps) c.tell.ensures.seats) (ap (λ (y : Record). y.generation) done) (ap (λ (y : Record). y.window) done),
     )
 
 pub returns-in-Ok-clause-step : goal.returns-in-Ok-clause-step
@@ -178,8 +176,7 @@ invariant_of-self-in-Err-Full g c =
     let done = refusal-told g (goal.at.invariant_of-self-in-Err-Full g c).In-Err-Full in (
       c.tell-in-Err-Full.ensures.tied,
       c.tell-in-Err-Full.ensures.committed,
-      texts-added g.P.Pair.start c.self.inside.seats.steps c.tell-in-Err-Full.new.seats.steps c.self.inside.record.protocol now
-          c.self.inside.texts.packets c.self.invariant.2 c.args.seat.now.number (drop c.len-before.result now.journal.history)
+      texts-added c.self.invariant.2 c.args.seat.now.number (drop c.len-before.result now.journal.history)
           (ap (λ (k : Keeper). k.steps) c.tell-in-Err-Full.ensures.seats)
           (ap (λ (y : Record). y.generation) done) (ap (λ (y : Record). y.window) done),
     )

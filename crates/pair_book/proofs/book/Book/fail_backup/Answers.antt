@@ -24,8 +24,7 @@ invariant_of-self-2 g c =
     let kept : KeepsCommitted g.P.Pair.start c.step_alone.new.self.steps now.protocol now.ports = search (rules, keeps) in (
       here,
       kept,
-      no-texts g.P.Pair.start c.step_alone.new.self.steps now.protocol now.ports c.clear.new.self.packets here
-          (ap (λ (y : Record). y.journal.sealed) done)
+      no-texts here (ap (λ (y : Record). y.journal.sealed) done)
           (ap (λ (y : Record). y.window.to_acknowledge) done ∙ sym (ap (λ (y : Record). y.window.to_cut) done))
           (ap (λ (t : TextsState). t.packets) c.clear.ensures),
     )

@@ -47,8 +47,7 @@ invariant_of-self-2 g c =
     subst (λ (xs : List Step). IsTied start xs now.protocol now.ports) (sym there) tied in (
       here,
       subst (λ (xs : List Step). KeepsCommitted start xs now.protocol now.ports) (sym there) keeps,
-      no-texts start c.meet-2.new.self.steps now.protocol now.ports c.clear.new.self.packets here
-          (ap (λ (y : Record). y.journal.sealed) done)
+      no-texts here (ap (λ (y : Record). y.journal.sealed) done)
           (ap (λ (y : Record). y.window.to_acknowledge) done ∙ sym (ap (λ (y : Record). y.window.to_cut) done))
           (ap (λ (t : TextsState). t.packets) c.clear.ensures),
     )

@@ -26,8 +26,7 @@ invariant_of-self g c =
     let lone = is_lone r.protocol.mode rows.0 in (
       here,
       kept,
-      no-texts g.P.Pair.start c.protect.new.self.steps now.protocol now.ports c.clear.new.self.packets here
-          (ap (λ (y : Record). y.journal.sealed) done ∙ (c.keep.ensures.record.alone lone.1).0)
+      no-texts here (ap (λ (y : Record). y.journal.sealed) done ∙ (c.keep.ensures.record.alone lone.1).0)
           (ap (λ (y : Record). y.window.to_acknowledge) done ∙ sym (ap (λ (y : Record). y.window.to_cut) done))
           (ap (λ (t : TextsState). t.packets) c.clear.ensures),
     )

@@ -58,8 +58,7 @@ invariant_of-self-2 g c =
     let done = is-taken g (goal.at.invariant_of-self-2 g c).In_ok-is_some in (
       c.tell.ensures.tied,
       c.tell.ensures.committed,
-      texts-added g.P.Pair.start c.self.inside.seats.steps c.tell.new.seats.steps c.self.inside.record.protocol now
-          c.self.inside.texts.packets c.self.invariant.2 c.args.seat.now.number (drop c.len-before.result now.journal.history)
+      texts-added c.self.invariant.2 c.args.seat.now.number (drop c.len-before.result now.journal.history)
           (ap (λ (k : Keeper). k.steps) c.tell.ensures.seats) (ap (λ (y : Record). y.generation) done) (ap (λ (y : Record). y.window) done),
     )
 
