@@ -1,5 +1,5 @@
 -- What each call of a client keeps of the tie.
-use Rattle.std.proofs.Common.{◌≡◌, ℕ, ◌-◌, ◌≤◌, List, [], ◌∷◌, ◌++◌, length, drop, refl, sym, ap, ◌∙◌, subst, arith, Bool, true, Option, inl, inr}
+use Rattle.std.proofs.Common.{◌≡◌, ℕ, ◌-◌, ◌≤◌, List, [], ◌∷◌, ◌++◌, length, drop, refl, sym, ap, subst, arith, Bool, true, Option, inl, inr}
 use Rattle.std.proofs.lemmas.List.{length-set}
 use Rattle.std.proofs.lemmas.Bool.Decides.{nat_tests}
 use Rattle.std.specs.Prelude.{slice_get, not, nat_le}
@@ -12,13 +12,12 @@ use Rattle.pair_record.specs.declared.event.Refusal.TheVariants.{NoClient, BadFr
 use Rattle.pair_record.specs.Protocol.{Record, Row, deliver_done, take_done, first_refusal, is_among, is_bad_length, exhausts, entry_refusals}
 use Rattle.pair_record.specs.Protocol.{take_refusals, deliver_refusals, RefusesDelivery, Refuses}
 use Rattle.pair_record.specs.Record.{ports_after_take}
-use Rattle.pair_record.specs.Accords.{Accords}
 use Rattle.pair_record.specs.laws.Clients.{take_accords, deliver_accords, full_accords}
 use Rattle.growing_history.specs.Steps.{Step, step, Added}
-use Rattle.growing_history.specs.LogState.{client_seat, state_at, after_step}
+use Rattle.growing_history.specs.LogState.{client_seat, state_at}
 use Rattle.pair_book.specs.Calls.{IsClientSeat, client_of, IsWhy, IsWhyDelivery}
-use Rattle.pair_book.specs.internal.{Tie.IsTied, Waits.AreWaiting}
-use Rattle.pair_book.proofs.{Ties.{added-tied, gained, tied-guests, tied-still}, Waits.delivered-waiting}
+use Rattle.pair_book.specs.internal.{Tie.IsTied}
+use Rattle.pair_book.proofs.{Ties.{added-tied, gained, tied-as, tied-guests, tied-still}, Waits.delivered-waiting}
 
 -- a client's seat is that of a client of the ports
 pub is_client_of : (start : HistoryState) (steps : List Step) (r : Record) (p : PortsState) (n : ℕ) → IsTied start steps r p
@@ -60,7 +59,7 @@ is-why rows wants (NoMemory w) h = subst (λ (o : Option Refusal). IsWhy o (NoMe
 is-why rows wants other e = subst (λ (o : Option Refusal). IsWhy o other) (sym e) refl
 
 -- TAKE
-module _ (start : HistoryState) (steps : List Step) (r now : Record) (p q : PortsState) (t : IsTied start steps r p) (by : ℕ)
+module _ {start : HistoryState} {steps : List Step} {r now : Record} {p q : PortsState} (t : IsTied start steps r p) (by : ℕ)
     (seat : IsClientSeat start by)
     (is : now ≡ (take_done p.boxes r (client_of by)).1) (ports : q ≡ ports_after_take p (client_of by)) where
   abbrev c : ℕ
@@ -72,29 +71,21 @@ module _ (start : HistoryState) (steps : List Step) (r now : Record) (p q : Port
   abbrev pub took_entry : Entry
   took_entry = Took c (slice_get box 0)
 
-  took-boxes : length q.boxes ≡ length p.boxes
-  took-boxes = ap (λ (x : PortsState). length x.boxes) ports ∙ length-set p.boxes (c - 1) (drop 1 box)
-
-  took-waits : AreWaiting (after_step (state_at start steps) (Added (took_entry ∷ []))) q
-  took-waits =
-      tied-still start steps r p q t (Added (took_entry ∷ [])) (tt, tt) (ap (λ (x : PortsState). x.next) ports)
-      (ap (λ (x : PortsState). x.inboxes) ports) took-boxes
-
-  took-accords : Accords start r p → Accords start now q
-  took-accords a =
-      let high = is_client_of start steps r p by t seat in
-      subst (λ (y : Record × PortsState). Accords start y.0 y.1) (λ i. (sym is i, sym ports i)) (take_accords start r p a c high.0 high.1)
-
   pub took-gained : (n : ℕ) (h : List Entry) → n ≡ length r.journal.history → h ≡ now.journal.history → drop n h ≡ took_entry ∷ []
   took-gained n h len same = gained n h r now (took_entry ∷ []) len same is
 
   pub took-tied : IsTied start (steps ++ step by (Added (took_entry ∷ [])) ∷ []) now q
   took-tied =
-      added-tied start steps r now p q t by (took_entry ∷ []) (its-seat start by seat, tt) (λ none. (tt, tt)) is took-boxes
-      took-waits took-accords
+      let high = is_client_of start steps r p by t seat in
+      let boxes = length-set p.boxes (c - 1) (drop 1 box) in
+      let q' = ports_after_take p c in
+      tied-as is ports
+      (added-tied start steps r p q' t by (took_entry ∷ []) (its-seat start by seat, tt) (λ none. (tt, tt)) boxes
+      (tied-still start steps r p q' t (Added (took_entry ∷ [])) (tt, tt) refl refl boxes)
+      (λ a. take_accords start r p a c high.0 high.1))
 
 -- DELIVER, and at a full inbox
-module _ (start : HistoryState) (steps : List Step) (r now : Record) (p q : PortsState) (t : IsTied start steps r p) (by : ℕ)
+module _ {start : HistoryState} {steps : List Step} {r : Record} {p : PortsState} (t : IsTied start steps r p) (by : ℕ)
     (seat : IsClientSeat start by) (bytes : List ℕ) (frame : IsFrame (record { items = bytes })) where
   abbrev d : ℕ
   d = client_of by
@@ -102,56 +93,33 @@ module _ (start : HistoryState) (steps : List Step) (r now : Record) (p q : Port
   abbrev sent : Frame
   sent = record { items = bytes }
 
-  module _ (is : now ≡ (deliver_done r d sent p.next).1) (ports : q ≡ after_delivery p d bytes) where
+  module _ {now : Record} {q : PortsState} (is : now ≡ (deliver_done r d sent p.next).1) (ports : q ≡ after_delivery p d bytes) where
     abbrev delivered : Entry
     delivered = Delivered d sent p.next
-
-    delivered-accords : Accords start r p → Accords start now q
-    delivered-accords a =
-        let high = is_client_of start steps r p by t seat in
-        subst (λ (y : Record × PortsState). Accords start y.0 y.1) (λ i. (sym is i, sym ports i))
-        (deliver_accords start r p a d high.0 high.1 bytes frame)
-
-    delivered-boxes : length q.boxes ≡ length p.boxes
-    delivered-boxes = ap (λ (x : PortsState). length x.boxes) ports
-
-    delivered-waits : AreWaiting (after_step (state_at start steps) (Added (delivered ∷ []))) q
-    delivered-waits =
-        let high = is_client_of start steps r p by t seat in
-        subst (AreWaiting (after_step (state_at start steps) (Added (delivered ∷ [])))) (sym ports)
-        (delivered-waiting (state_at start steps) p t.waits (tied-guests start steps r p t) d high.0 high.1 bytes)
 
     pub delivered-gained : (n : ℕ) (h : List Entry) → n ≡ length r.journal.history → h ≡ now.journal.history → drop n h ≡ delivered ∷ []
     delivered-gained n h len same = gained n h r now (delivered ∷ []) len same is
 
     pub delivered-tied : IsTied start (steps ++ step by (Added (delivered ∷ [])) ∷ []) now q
     delivered-tied =
-        added-tied start steps r now p q t by (delivered ∷ []) (its-seat start by seat, tt) (λ none. (tt, tt)) is delivered-boxes
-        delivered-waits delivered-accords
+        let high = is_client_of start steps r p by t seat in
+        tied-as is ports
+        (added-tied start steps r p (after_delivery p d bytes) t by (delivered ∷ []) (its-seat start by seat, tt) (λ none. (tt, tt)) refl
+        (delivered-waiting (state_at start steps) p t.waits (tied-guests start steps r p t) d high.0 high.1 bytes)
+        (λ a. deliver_accords start r p a d high.0 high.1 bytes frame))
 
-  module _ (full : inbox_frames ≤ length (list_of p.inboxes d))
+  module _ {now : Record} {q : PortsState} (full : inbox_frames ≤ length (list_of p.inboxes d))
       (is : now ≡ record r { journal = with_history r.journal (Refused d sent ∷ []) }) (ports : q ≡ p) where
     abbrev refused : Entry
     refused = Refused d sent
-
-    refused-accords : Accords start r p → Accords start now q
-    refused-accords a =
-        let high = is_client_of start steps r p by t seat in
-        subst (λ (y : Record × PortsState). Accords start y.0 y.1) (λ i. (sym is i, sym ports i))
-        (full_accords start r p a d high.0 high.1 bytes frame full)
-
-    refused-boxes : length q.boxes ≡ length p.boxes
-    refused-boxes = ap (λ (x : PortsState). length x.boxes) ports
-
-    refused-waits : AreWaiting (after_step (state_at start steps) (Added (refused ∷ []))) q
-    refused-waits =
-        tied-still start steps r p q t (Added (refused ∷ [])) (tt, tt) (ap (λ (x : PortsState). x.next) ports)
-        (ap (λ (x : PortsState). x.inboxes) ports) refused-boxes
 
     pub refused-gained : (n : ℕ) (h : List Entry) → n ≡ length r.journal.history → h ≡ now.journal.history → drop n h ≡ refused ∷ []
     refused-gained n h len same = gained n h r now (refused ∷ []) len same is
 
     pub refused-tied : IsTied start (steps ++ step by (Added (refused ∷ [])) ∷ []) now q
     refused-tied =
-        added-tied start steps r now p q t by (refused ∷ []) (its-seat start by seat, tt) (λ none. (tt, tt)) is refused-boxes
-        refused-waits refused-accords
+        let high = is_client_of start steps r p by t seat in
+        tied-as is ports
+        (added-tied start steps r p p t by (refused ∷ []) (its-seat start by seat, tt) (λ none. (tt, tt)) refl
+        (tied-still start steps r p p t (Added (refused ∷ [])) (tt, tt) refl refl refl)
+        (λ a. full_accords start r p a d high.0 high.1 bytes frame full))

@@ -1,11 +1,10 @@
 -- What a commit keeps of the tie.
 use Rattle.std.proofs.Common.{◌≡◌, ℕ, ◌<◌, List, [], ◌∷◌, ◌++◌, length, map, take, drop, refl, sym, ap, ◌∙◌, subst, false, arith}
-use Rattle.std.proofs.lemmas.List.{append-nil, length-map}
+use Rattle.std.proofs.lemmas.List.{append-nil}
 use Rattle.failover.specs.declared.mode.Mode.{Mode}
 use Rattle.failover.specs.declared.mode.Mode.TheVariants.{Paired, Filling, Alone, Stopped}
 use Rattle.epoch_snapshot.specs.Checkpoints.{Change}
 use Rattle.frame_ports.specs.Ports.{PortsState}
-use Rattle.pair_history.specs.Entries.{Entry}
 use Rattle.pair_history.specs.HistoryState.{HistoryState}
 use Rattle.pair_record.specs.Journal.{first_of, rest_of}
 use Rattle.pair_record.specs.Modes.{is_alone}
@@ -18,7 +17,7 @@ use Rattle.growing_history.specs.LogState.{LogState, Epoch, state_at, entries_of
 use Rattle.growing_history.specs.laws.Sealed.{first-sealed}
 use Rattle.pair_book.specs.Commits.{commit_of}
 use Rattle.pair_book.specs.internal.Tie.{IsTied}
-use Rattle.pair_book.proofs.Ties.{step-tied, tied-still}
+use Rattle.pair_book.proofs.Ties.{step-tied, sealed-long, tied-as, tied-still}
 use Rattle.failover.specs.Modes.{mode_filled}
 
 -- the first of the sealed epochs, and the others
@@ -30,12 +29,6 @@ other-entries : (es : List Epoch) → rest_of (map (λ (e : Epoch). e.entries) e
 other-entries [] = refl
 other-entries (e ∷ es) = refl
 
-same-filled : (m : Mode) → mode_filled m ≡ mode_filled m
-same-filled Paired = refl
-same-filled Filling = refl
-same-filled Alone = refl
-same-filled Stopped = refl
-
 pub not-alone : (m : Mode) → is_alone m ≡ false → IsAlone m → ⊥
 not-alone Paired e a = a
 not-alone Filling e a = a
@@ -46,7 +39,7 @@ pub some-first : {A : Type 0} (xs : List A) → 0 < length xs → (x : A) × (re
 some-first [] l = absurd (omega (arith, l))
 some-first (x ∷ xs) l = (x, xs, refl)
 
-module _ (start : HistoryState) (steps : List Step) (r now : Record) (p q : PortsState) (t : IsTied start steps r p) (by : ℕ) (c : Change)
+module _ {start : HistoryState} {steps : List Step} {r now : Record} {p q : PortsState} (t : IsTied start steps r p) (by : ℕ) (c : Change)
     (k : IsRecord r)
     (mine : by ≡ (state_at start steps).backup)
     (pair : is_alone r.mode ≡ false)
@@ -58,40 +51,25 @@ module _ (start : HistoryState) (steps : List Step) (r now : Record) (p q : Port
   abbrev s : LogState
   s = state_at start steps
 
-  long : length r.journal.sealed ≡ length s.sealed
-  long = ap (λ (l : List (List Entry)). length l) t.sealed ∙ length-map s.sealed (λ (e : Epoch). e.entries)
-
   first : IsFirstSealed c.number s.sealed
   first =
+      let long = sealed-long start steps r p t in
       first-sealed start steps t.legal c.number (omega (arith, number, long, k.sealed, t.next)) (omega (arith, number, some, t.next))
 
   paired : IsAlone s.mode → ⊥
   paired = subst (λ (m : Mode). IsAlone m → ⊥) t.mode (not-alone r.mode pair)
 
-  committed-history : now.journal.history ≡ r.journal.history ++ entries_of (take 1 s.sealed)
-  committed-history =
-      ap (λ (y : Record). y.journal.history) is
-      ∙ ap (λ (l : List (List Entry)). r.journal.history ++ first_of l) t.sealed
-      ∙ ap (λ (l : List Entry). r.journal.history ++ l) (first-entries s.sealed)
-
-  committed-accords : Accords start r p → Accords start now q
+  committed-accords : Accords start r p → Accords start (commit_done r).1 p
   committed-accords a =
       let many = some_moves start r p a k some in
       let moves = some-first a.journal.sealed_moves many in
       let held = some_held start r p a k many in
-      subst (λ (y : Record × PortsState). Accords start y.0 y.1) (λ i. (sym is i, sym ports i))
-      (commit_accords start r p a k moves.0 moves.1 moves.2 held.0 held.1 held.2)
+      commit_accords start r p a k moves.0 moves.1 moves.2 held.0 held.1 held.2
 
   pub committed-tied : IsTied start (steps ++ step by (commit_of c) ∷ []) now q
   committed-tied =
-      step-tied start steps r now p q t by (commit_of c) (mine, paired, generation ∙ t.generation, first) (λ none. tt)
-      (λ none. committed-history)
-      (ap (λ (y : Record). y.journal.sealed) is ∙ ap rest_of t.sealed ∙ other-entries s.sealed)
-      (ap (λ (y : Record). y.journal.running) is ∙ t.running)
-      (ap (λ (y : Record). y.mode) is ∙ ap mode_filled t.mode ∙ same-filled s.mode)
-      (ap (λ (y : Record). y.generation) is ∙ t.generation)
-      (ap (λ (y : Record). y.window.to_cut) is ∙ t.next)
-      (ap (λ (x : PortsState). length x.boxes) ports)
-      (tied-still start steps r p q t (commit_of c) tt (ap (λ (x : PortsState). x.next) ports)
-      (ap (λ (x : PortsState). x.inboxes) ports) (ap (λ (x : PortsState). length x.boxes) ports))
-      (λ none. committed-accords (t.accords none))
+      tied-as is ports
+      (step-tied start steps r (commit_done r).1 p p t by (commit_of c) (mine, paired, generation ∙ t.generation, first) (λ none. tt)
+      (λ none. ap (λ l. r.journal.history ++ l) (ap first_of t.sealed ∙ first-entries s.sealed))
+      (ap rest_of t.sealed ∙ other-entries s.sealed) t.running (ap mode_filled t.mode) t.generation t.next refl
+      (tied-still start steps r p p t (commit_of c) tt refl refl refl) (λ none. committed-accords (t.accords none)))

@@ -13,7 +13,7 @@ use Rattle.growing_history.specs.{LogState.state_at, SealedTexts.IsMade}
 use Rattle.pair_book.specs.Made.{Reads}
 use Rattle.pair_book.specs.Standing.{commits_of}
 use Rattle.pair_book.specs.internal.Committed.{AreOwed, KeepsCommitted}
-use Rattle.pair_book.proofs.{CommittedLaws.owed_sealed, CommittedTies.step-keeps}
+use Rattle.pair_book.proofs.{CommittedLaws.owed_sealed, CommittedTies.{step-keeps, keeps-as}}
 
 module _ (start : HistoryState) (steps : List Step) (r now : Record) (p q : PortsState) (h : KeepsCommitted start steps r p) (by : ℕ)
     (g n : ℕ) (epoch : List Entry) (text : List ℕ)
@@ -23,11 +23,9 @@ module _ (start : HistoryState) (steps : List Step) (r now : Record) (p q : Port
       → is_alone r.mode ≡ false → (es rest : List Entry) (fs : List Frame) → now ≡ (seal_done es rest fs r).1 → q ≡ p
       → KeepsCommitted start (steps ++ step by (Sealed g n epoch text) ∷ []) now q
   sealed-keeps k held some pair es rest fs is ports =
-      step-keeps start steps r now p q h by (Sealed g n epoch text) made
-      (λ z. h.none (sym (ap (λ (y : Record). y.window.to_commit) is) ∙ z))
-      (λ m a c.
-      subst (λ (y : Record × PortsState). AreOwed y.0 y.1 (commits_of start steps)) (λ i. (sym is i, sym ports i))
-      (owed_sealed r p (commits_of start steps) (h.owed m pair some) k held es rest fs))
+      keeps-as is ports
+      (step-keeps start steps r (seal_done es rest fs r).1 p p h by (Sealed g n epoch text) made h.none
+      (λ m a c. owed_sealed r p (commits_of start steps) (h.owed m pair some) k held es rest fs))
 
   -- A FULL CHECKPOINT IS SEALED, the first of its backup: nothing is committed, and the guest's frames are numbered from 1 anew. The epoch
   -- before it has entered the history by then, which leaves the window and what is pending.

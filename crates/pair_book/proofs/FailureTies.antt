@@ -12,7 +12,6 @@ use Rattle.pair_history.specs.HistoryState.{HistoryState, at}
 use Rattle.pair_history.specs.HistoryState as history
 use Rattle.pair_history.specs.{Failures.all_land, Landings.{landings, DropsAtFull}}
 use Rattle.pair_history.specs.Moves.{Move}
-use Rattle.pair_history.specs.laws.Histories.{at-append}
 use Rattle.frame_ports.specs.laws.Lands.{length-lands}
 use Rattle.pair_history.specs.laws.Moves.{moved}
 use Rattle.pair_history.specs.laws.Waits.{AreQuiet-landings}
@@ -27,10 +26,9 @@ use Rattle.pair_record.specs.laws.Accords.{sealed_state, owed_with}
 use Rattle.pair_record.specs.laws.{Clients.{ack_accords, ack_lands}, Handed.fail_within_accords, NewBackups.begin_accords}
 use Rattle.growing_history.specs.Steps.{Step, step, Added, PrimaryFailed, BackupFailed, Protected}
 use Rattle.growing_history.specs.LogState.{LogState, state_at, under_way, entries_of, added, IsOwn, AreOwn, AreKnown, HasBackup, IsAlone, IsNew}
-use Rattle.growing_history.specs.laws.Logs.{history-stands}
 use Rattle.growing_history.specs.laws.Waiting.{same-wait}
 use Rattle.pair_book.specs.internal.Tie.{IsTied}
-use Rattle.pair_book.proofs.{Ties.{step-tied, sealed-joined, gained-there, tied-still}, Waits.still-waiting}
+use Rattle.pair_book.proofs.{Ties.{step-tied, shown, sealed-are, sealed-there, gained-there, tied-as, tied-still}, Waits.still-waiting}
 
 -- what an acknowledgement lets land
 abbrev pub landed_by : List (List Frame) → Record → ℕ → List Entry
@@ -88,102 +86,72 @@ full-known way b [] h d = tt
 full-known way b (x ∷ xs) h d =
     full-known-one way x.0 (landings (landed_at b x.0 x.1) xs) h (λ t e. full-known way (landed_at b x.0 x.1) xs t e) (has_room b x.0) d
 
-module _ (start : HistoryState) (steps : List Step) (r now : Record) (p q : PortsState) (t : IsTied start steps r p) where
+module _ {start : HistoryState} {steps : List Step} {r : Record} {p : PortsState} (t : IsTied start steps r p) where
   abbrev s : LogState
   s = state_at start steps
 
-  -- the history's state is the one that clients see
-  pub shown : s.marked ≡ 0 → s.history ≡ shown_at start r
-  shown none = history-stands start steps ∙ ap (at start) (sym (t.history none))
-
   -- THE PRIMARY FAILS
-  module _ (free : change_refusal changes.FailPrimary r.mode ≡ None) (is : now ≡ (fail_primary_done r).1) (ports : q ≡ p) where
+  module _ {now : Record} {q : PortsState} (free : change_refusal changes.FailPrimary r.mode ≡ None)
+      (is : now ≡ (fail_primary_done r).1) (ports : q ≡ p) where
     pub primary-tied : IsTied start (steps ++ step 0 PrimaryFailed ∷ []) now q
     primary-tied =
-        step-tied start steps r now p q t 0 PrimaryFailed (refl, sym t.mode ∙ is_paired r.mode free) (λ none. tt)
-        (λ none. ap (λ (y : Record). y.journal.history) is ∙ sym (append-nil r.journal.history))
-        (ap (λ (y : Record). y.journal.sealed) is ∙ t.sealed)
-        (ap (λ (y : Record). y.journal.running) is ∙ t.running)
-        (ap (λ (y : Record). y.mode) is)
-        (ap (λ (y : Record). y.generation) is ∙ t.generation)
-        (ap (λ (y : Record). y.window.to_cut) is ∙ t.next)
-        (ap (λ (x : PortsState). length x.boxes) ports)
-        (tied-still start steps r p q t PrimaryFailed tt (ap (λ (x : PortsState). x.next) ports)
-        (ap (λ (x : PortsState). x.inboxes) ports) (ap (λ (x : PortsState). length x.boxes) ports))
-        (λ none. subst (λ (y : Record × PortsState). Accords start y.0 y.1) (λ i. (sym is i, sym ports i)) (stopped (t.accords none)))
+        tied-as is ports
+        (step-tied start steps r (fail_primary_done r).1 p p t 0 PrimaryFailed (refl, sym t.mode ∙ is_paired r.mode free) (λ none. tt)
+        (λ none. sym (append-nil r.journal.history)) t.sealed t.running refl t.generation t.next refl
+        (tied-still start steps r p p t PrimaryFailed tt refl refl refl) (λ none. stopped (t.accords none)))
       where
         stopped : Accords start r p → Accords start (fail_primary_done r).1 p
         stopped a = record { journal = a.journal; frames = a.frames; clients = a.clients; owed = a.owed }
 
   -- THE BACKUP FAILS
-  module _ (free : change_refusal changes.FailBackup r.mode ≡ None) (is : now ≡ (fail_within_done p.boxes r).1)
-      (ports : q ≡ ports_after_all p [] r) where
+  module _ {now : Record} {q : PortsState} (free : change_refusal changes.FailBackup r.mode ≡ None)
+      (is : now ≡ (fail_within_done p.boxes r).1) (ports : q ≡ ports_after_all p [] r) where
     -- what is on its way once what is sealed is committed is what the gate holds
     all_land-is : Accords start r p → s.marked ≡ 0 → all_land (at s.history (entries_of s.sealed)) ≡ landings p.boxes (all_held p.boxes [] r)
     all_land-is a none =
         let ms : List Move = sealed_now start r p a in
         let here = shown_at start r in
-        let sealed : entries_of s.sealed ≡ joined r.journal.sealed = sym (ap joined t.sealed ∙ sealed-joined s.sealed) in
-        let there : at s.history (entries_of s.sealed) ≡ at start (r.journal.history ++ joined r.journal.sealed) =
-        (λ i. at (shown none i) (sealed i)) ∙ sym (at-append start r.journal.history (joined r.journal.sealed)) in
         let out : (moved here ms).out ≡ all_held p.boxes [] r =
         ap (λ (xs : List Move). (moved here xs).out) (sym (append-nil ms)) ∙ sym (owed_with start r p a [] [] refl) in
-        ap all_land (there ∙ sealed_state start r p a) ∙ (λ i. landings (sym a.clients.boxes i) (out i))
+        ap all_land (sealed-there start steps r p t none ∙ sealed_state start r p a) ∙ (λ i. landings (sym a.clients.boxes i) (out i))
 
-    failed-history : s.marked ≡ 0 → now.journal.history ≡ r.journal.history ++ added s BackupFailed
+    failed-history : s.marked ≡ 0 → (fail_within_done p.boxes r).1.journal.history ≡ r.journal.history ++ added s BackupFailed
     failed-history none =
         let a = t.accords none in
-        let sealed : joined r.journal.sealed ++ [] ≡ entries_of s.sealed =
-        append-nil (joined r.journal.sealed) ∙ ap joined t.sealed ∙ sealed-joined s.sealed in
-        ap (λ (y : Record). y.journal.history) is
-        ∙ append_assoc r.journal.history (joined r.journal.sealed ++ []) (landings p.boxes (all_held p.boxes [] r))
+        let sealed = append-nil (joined r.journal.sealed) ∙ sym (sealed-are start steps r p t) in
+        append_assoc r.journal.history (joined r.journal.sealed ++ []) (landings p.boxes (all_held p.boxes [] r))
         ∙ (λ i. r.journal.history ++ (sealed i ++ sym (all_land-is a none) i))
 
     pub backup-tied : IsTied start (steps ++ step 0 BackupFailed ∷ []) now q
     backup-tied =
-        step-tied start steps r now p q t 0 BackupFailed
-        (refl, subst HasBackup t.mode (has_backup r.mode free).0) (λ none. tt)
-        failed-history
-        (ap (λ (y : Record). y.journal.sealed) is)
-        (ap (λ (y : Record). y.journal.running) is ∙ t.running)
-        (ap (λ (y : Record). y.mode) is)
-        (ap (λ (y : Record). y.generation) is ∙ t.generation)
-        (ap (λ (y : Record). y.window.to_cut) is ∙ t.next)
-        (ap (λ (x : PortsState). length x.boxes) ports ∙ length-lands p.boxes (all_held p.boxes [] r))
-        (tied-still start steps r p q t BackupFailed tt (ap (λ (x : PortsState). x.next) ports)
-        (ap (λ (x : PortsState). x.inboxes) ports)
-        (ap (λ (x : PortsState). length x.boxes) ports ∙ length-lands p.boxes (all_held p.boxes [] r)))
-        (λ none. subst (λ (y : Record × PortsState). Accords start y.0 y.1) (λ i. (sym is i, sym ports i))
-        (fail_within_accords start r p (t.accords none)))
+        let boxes = length-lands p.boxes (all_held p.boxes [] r) in
+        let q' = ports_after_all p [] r in
+        tied-as is ports
+        (step-tied start steps r (fail_within_done p.boxes r).1 p q' t 0 BackupFailed
+        (refl, subst HasBackup t.mode (has_backup r.mode free).0) (λ none. tt) failed-history refl t.running refl t.generation t.next boxes
+        (tied-still start steps r p q' t BackupFailed tt refl refl boxes) (λ none. fail_within_accords start r p (t.accords none)))
 
   -- A NEW BACKUP
-  module _ (b : ℕ) (new : IsNew s b) (free : change_refusal changes.Protect r.mode ≡ None) (k : IsRecord r) (is : now ≡ (begin_done r).1)
-      (ports : q ≡ p) where
+  module _ {now : Record} {q : PortsState} (b : ℕ) (new : IsNew s b) (free : change_refusal changes.Protect r.mode ≡ None)
+      (k : IsRecord r) (is : now ≡ (begin_done r).1) (ports : q ≡ p) where
     pub protected-tied : IsTied start (steps ++ step 0 (Protected b) ∷ []) now q
     protected-tied =
         let lone = is_lone r.mode free in
-        step-tied start steps r now p q t 0 (Protected b) (refl, subst IsAlone t.mode lone.0, new) (λ none. tt)
-        (λ none. ap (λ (y : Record). y.journal.history) is ∙ sym (append-nil r.journal.history))
-        (ap (λ (y : Record). y.journal.sealed) is ∙ t.sealed)
-        (ap (λ (y : Record). y.journal.running) is ∙ t.running)
-        (ap (λ (y : Record). y.mode) is)
-        (ap (λ (y : Record). y.generation) is ∙ ap (λ (n : ℕ). n + 1) t.generation)
-        (ap (λ (y : Record). y.window.to_cut) is)
-        (ap (λ (x : PortsState). length x.boxes) ports)
-        (tied-still start steps r p q t (Protected b) tt (ap (λ (x : PortsState). x.next) ports)
-        (ap (λ (x : PortsState). x.inboxes) ports) (ap (λ (x : PortsState). length x.boxes) ports))
-        (λ none. subst (λ (y : Record × PortsState). Accords start y.0 y.1) (λ i. (sym is i, sym ports i))
-        (begin_accords start r p (t.accords none) (k.alone lone.1)))
+        tied-as is ports
+        (step-tied start steps r (begin_done r).1 p p t 0 (Protected b) (refl, subst IsAlone t.mode lone.0, new) (λ none. tt)
+        (λ none. sym (append-nil r.journal.history)) t.sealed t.running refl (ap (λ n. n + 1) t.generation) refl refl
+        (tied-still start steps r p p t (Protected b) tt refl refl refl)
+        (λ none. begin_accords start r p (t.accords none) (k.alone lone.1)))
 
   -- AN ACKNOWLEDGEMENT that lets frames go
-  module _ (n : ℕ) (k : IsRecord r) (below : n < r.window.to_commit) (is : now ≡ (ack_done p.boxes r n).1)
+  module _ {now : Record} {q : PortsState} (n : ℕ) (k : IsRecord r) (below : n < r.window.to_commit) (is : now ≡ (ack_done p.boxes r n).1)
       (ports : q ≡ ports_after_ack p r n) where
     abbrev pub landed : List Entry
     landed = landings p.boxes (let_go p.boxes r n)
 
     landed-known : s.marked ≡ 0 → AreKnown (under_way s) s.history 0 landed
     landed-known none =
-        subst (λ (h : HistoryState). AreKnown (under_way s) h 0 landed) (sym (shown none))
+        subst (λ (h : HistoryState). AreKnown (under_way s) h 0 landed) (sym (shown start steps r p t none))
         (full-known (under_way s) p.boxes (let_go p.boxes r n) (shown_at start r) (ack_lands start r p (t.accords none) k n below).2)
 
     pub acked-gained : (m : ℕ) (h : List Entry) → m ≡ length r.journal.history → h ≡ now.journal.history → drop m h ≡ landed
@@ -191,38 +159,29 @@ module _ (start : HistoryState) (steps : List Step) (r now : Record) (p q : Port
 
     pub acked-tied : IsTied start (steps ++ step 0 (Added landed) ∷ []) now q
     acked-tied =
-        step-tied start steps r now p q t 0 (Added landed) (own-landings p.boxes (let_go p.boxes r n)) landed-known
-        (λ none. ap (λ (y : Record). y.journal.history) is)
-        (ap (λ (y : Record). y.journal.sealed) is ∙ t.sealed)
-        (ap (λ (y : Record). y.journal.running) is ∙ t.running)
-        (ap (λ (y : Record). y.mode) is ∙ t.mode)
-        (ap (λ (y : Record). y.generation) is ∙ t.generation)
-        (ap (λ (y : Record). y.window.to_cut) is ∙ t.next)
-        (ap (λ (x : PortsState). length x.boxes) ports ∙ length-lands p.boxes (let_go p.boxes r n))
-        (tied-still start steps r p q t (Added landed) (AreQuiet-landings p.boxes (let_go p.boxes r n))
-        (ap (λ (x : PortsState). x.next) ports) (ap (λ (x : PortsState). x.inboxes) ports)
-        (ap (λ (x : PortsState). length x.boxes) ports ∙ length-lands p.boxes (let_go p.boxes r n)))
-        (λ none. subst (λ (y : Record × PortsState). Accords start y.0 y.1) (λ i. (sym is i, sym ports i))
-        (ack_accords start r p (t.accords none) k n below))
+        let boxes = length-lands p.boxes (let_go p.boxes r n) in
+        let q' = ports_after_ack p r n in
+        tied-as is ports
+        (step-tied start steps r (ack_done p.boxes r n).1 p q' t 0 (Added landed) (own-landings p.boxes (let_go p.boxes r n)) landed-known
+        (λ none. refl) t.sealed t.running t.mode t.generation t.next boxes
+        (tied-still start steps r p q' t (Added landed) (AreQuiet-landings p.boxes (let_go p.boxes r n)) refl refl boxes)
+        (λ none. ack_accords start r p (t.accords none) k n below))
 
     -- where nothing leaves, no step is made, and the record is still the one that the steps lead to
     pub unmoved-tied : landed ≡ [] → IsTied start steps now q
     unmoved-tied nothing =
-        let kept : r.journal.history ++ landed ≡ r.journal.history =
-        ap (λ (es : List Entry). r.journal.history ++ es) nothing ∙ append-nil r.journal.history in
+        let boxes = length-lands p.boxes (let_go p.boxes r n) in
+        let now-tied : IsTied start steps (ack_done p.boxes r n).1 (ports_after_ack p r n) =
         record {
           legal = t.legal;
-          history = λ none. ap (λ (y : Record). y.journal.history) is ∙ kept ∙ t.history none;
-          sealed = ap (λ (y : Record). y.journal.sealed) is ∙ t.sealed;
-          running = ap (λ (y : Record). y.journal.running) is ∙ t.running;
-          mode = ap (λ (y : Record). y.mode) is ∙ t.mode;
-          generation = ap (λ (y : Record). y.generation) is ∙ t.generation;
-          next = ap (λ (y : Record). y.window.to_cut) is ∙ t.next;
-          clients = ap (λ (x : PortsState). length x.boxes) ports ∙ length-lands p.boxes (let_go p.boxes r n) ∙ t.clients;
-          waits =
-              still-waiting s s p q t.waits (same-wait s s refl refl refl) (ap (λ (x : PortsState). x.next) ports)
-              (ap (λ (x : PortsState). x.inboxes) ports)
-              (ap (λ (x : PortsState). length x.boxes) ports ∙ length-lands p.boxes (let_go p.boxes r n));
-          accords = λ none. subst (λ (y : Record × PortsState). Accords start y.0 y.1) (λ i. (sym is i, sym ports i))
-              (ack_accords start r p (t.accords none) k n below);
-        }
+          history = λ none. ap (λ (es : List Entry). r.journal.history ++ es) nothing ∙ append-nil r.journal.history ∙ t.history none;
+          sealed = t.sealed;
+          running = t.running;
+          mode = t.mode;
+          generation = t.generation;
+          next = t.next;
+          clients = boxes ∙ t.clients;
+          waits = still-waiting s s p (ports_after_ack p r n) t.waits (same-wait s s refl refl refl) refl refl boxes;
+          accords = λ none. ack_accords start r p (t.accords none) k n below;
+        } in
+        tied-as is ports now-tied

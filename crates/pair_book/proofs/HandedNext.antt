@@ -48,13 +48,16 @@ pub hands-behind : (es : List Entry) (h : Handing) → length h.ports.inboxes �
 hands-behind [] h same = hands-firsts (length h.ports.boxes) 1 h (omega arith) (omega (arith, same))
 hands-behind (e ∷ es) h same = refl
 
+-- another epoch runs
+abbrev pub running_as : List Entry → Record → Record
+running_as es r = record r { journal = record r.journal { running = es } }
+
 -- What is so once it was handed out what comes next, where m is the state before.
 pub record Hands (start : HistoryState) (m : LogState) (h : HistoryState) (r now : Record) (p q : PortsState) : Type 0 where
   pub waits : AreWaiting (record m { handed = hands_out m.handed h }) q
-  pub running : now.journal.running ≡ map Arrive (hands_out m.handed h)
-  pub protocol : now ≡ record r { journal = record r.journal { running = now.journal.running } }
+  pub protocol : now ≡ running_as (map Arrive (hands_out m.handed h)) r
   pub boxes : length q.boxes ≡ length p.boxes
-  pub accords : Accords start r p → Accords start now q
+  pub accords : Accords start r p → Accords start (running_as (map Arrive (hands_out m.handed h)) r) q
 
 module _ (start : HistoryState) (m : LogState) (h : HistoryState) (r now : Record) (p q : PortsState) (xs : List (ℕ × Frame))
     (w : AreWaiting m p) (guests : AreGuests (entries_of m.sealed)) (runs : r.journal.running ≡ map Arrive m.handed)
@@ -77,12 +80,12 @@ module _ (start : HistoryState) (m : LogState) (h : HistoryState) (r now : Recor
       let record-is : now ≡ r = ap (λ (x : Handing). x.protocol) same in
       let ports : q ≡ p = ap (λ (x : Handing). x.ports) same in
       let held : hands_out m.handed h ≡ m.handed = ap (λ l. hands_out l h) e ∙ sym e in
+      let protocol = record-is ∙ ap (λ es. running_as es r) (runs ∙ ap (map Arrive) (sym held)) in
       record {
         waits = subst (λ (x : List ℕ × PortsState). AreWaiting (record m { handed = x.0 }) x.1) (λ i. (sym held i, sym ports i)) w;
-        running = ap (λ (x : Record). x.journal.running) record-is ∙ runs ∙ ap (map Arrive) (sym held);
-        protocol = record-is ∙ (λ i. record r { journal = record r.journal { running = (sym record-is i).journal.running } });
+        protocol = protocol;
         boxes = ap (λ (x : PortsState). length x.boxes) ports;
-        accords = accords-so;
+        accords = λ a. subst (λ (y : Record). Accords start y q) protocol (accords-so a);
       }
 
   first-four : m.handed ≡ [] → Hands start m h r now p q
@@ -102,19 +105,16 @@ module _ (start : HistoryState) (m : LogState) (h : HistoryState) (r now : Recor
       firsts-are n 1 n p.inboxes (waits_at_last m) w.inboxes (omega arith) (omega arith) in
       let all : m.handed ++ first_frames n 1 (waits_at_last m) ≡ hands_out m.handed h =
       ap (λ l. l ++ first_frames n 1 (waits_at_last m)) e ∙ sym given in
-      let runs-now : now.journal.running ≡ map Arrive (map (λ (x : ℕ × Frame). x.0) fours) =
-      ap (λ (x : Record). x.journal.running) out.out.protocol ∙ ap (λ l. l ++ map Arrive (map (λ (x : ℕ × Frame). x.0) fours)) still in
+      let runs-now = ap (λ l. l ++ map Arrive (map (λ (x : ℕ × Frame). x.0) fours)) still ∙ ap (map Arrive) (numbers ∙ sym given) in
+      let protocol = out.out.protocol ∙ ap (λ es. running_as es r) runs-now in
       record {
         waits =
             subst (λ (l : List ℕ). AreWaiting (record m { handed = l }) q) all
             (given-waiting m p q w guests out.out.next (ap length out.out.boxes) out.out.count
             (λ c low high. out.lose c low (omega (arith, high))));
-        running = runs-now ∙ ap (map Arrive) (numbers ∙ sym given);
-        protocol =
-            out.out.protocol
-            ∙ (λ i. record r { journal = record r.journal { running = (sym out.out.protocol i).journal.running } });
+        protocol = protocol;
         boxes = ap length out.out.boxes;
-        accords = accords-so;
+        accords = λ a. subst (λ (y : Record). Accords start y q) protocol (accords-so a);
       }
 
   pub hands : Hands start m h r now p q

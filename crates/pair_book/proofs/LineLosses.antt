@@ -40,10 +40,8 @@ module _ (start : HistoryState) (steps : List Step) (r now : RecordState) (tied 
         there = ap (option_map (λ (x : ℕ × Frame). DropIn x.0)) lost.2;
         is = lost.3;
         ports = ports;
-        tied =
-            lost-in-tied start steps r.protocol now.protocol r.ports now.ports tied c place lost.4 lost.5 lost.0 lost.1 lost.2 lost.3 ports;
-        committed =
-            lost-in-keeps start steps r.protocol now.protocol r.ports now.ports keeps line_seat c place lost.0 lost.3 ports;
+        tied = lost-in-tied tied c place lost.4 lost.5 lost.0 lost.1 lost.2 lost.3 ports;
+        committed = lost-in-keeps keeps line_seat c place lost.0 lost.3 ports;
       }
 
   -- from a box
@@ -61,10 +59,8 @@ module _ (start : HistoryState) (steps : List Step) (r now : RecordState) (tied 
         there = lost.0;
         is = lost.2;
         ports = ports;
-        tied =
-            lost-out-tied start steps r.protocol now.protocol r.ports now.ports tied c place lost.3 lost.4 lost.1 few lost.2 ports;
-        committed =
-            lost-out-keeps start steps r.protocol now.protocol r.ports now.ports keeps line_seat c place lost.2 ports;
+        tied = lost-out-tied tied c place lost.3 lost.4 lost.1 few lost.2 ports;
+        committed = lost-out-keeps keeps line_seat c place lost.2 ports;
       }
 
 module _ (start : HistoryState) (seats : Keeper) (r now : RecordState) (texts : TextsState) (line : Member) (number : line.number ≡ line_seat)
@@ -87,8 +83,7 @@ module _ (start : HistoryState) (seats : Keeper) (r now : RecordState) (texts : 
         → seats' ≡ record seats { steps = seats.steps ++ step line.number (Added (drop n now.protocol.journal.history)) ∷ [] }
         → HasTexts start seats'.steps now.protocol texts.packets
     told-texts had seats' keeper =
-        texts-added start seats.steps seats'.steps r.protocol now.protocol texts.packets had line.number
-        (drop n now.protocol.journal.history) (ap (λ (k : Keeper). k.steps) keeper)
+        texts-added had line.number (drop n now.protocol.journal.history) (ap (λ (k : Keeper). k.steps) keeper)
         (ap (λ (y : Record). y.generation) d.is) (ap (λ (y : Record). y.window) d.is)
 
     pub dropped : (old : BookState) → book_state seats r texts ≡ old → (seats' : Keeper) (seat seat' : Member) → line ≡ seat

@@ -1,7 +1,7 @@
 -- What is kept of the tie where the backup goes live, and the table of refusals.
-use Rattle.std.proofs.Common.{◌≡◌, ℕ, ◌+◌, ◌-◌, ◌<◌, ◌≤◌, List, [], ◌∷◌, ◌++◌, length, refl, sym, ap, ◌∙◌, subst, Bool, true, false}
+use Rattle.std.proofs.Common.{◌≡◌, ℕ, ◌+◌, ◌<◌, ◌≤◌, List, [], ◌∷◌, ◌++◌, length, refl, sym, ap, ◌∙◌, subst, Bool, true, false}
 use Rattle.std.proofs.Common.{Option, Some, None, arith}
-use Rattle.std.proofs.lemmas.{Bool.eqb-true, List.length-map}
+use Rattle.std.proofs.lemmas.{Bool.eqb-true}
 use Rattle.std.specs.Prelude.{nat_le, not}
 use Rattle.failover.specs.declared.change.Change.TheVariants as changes
 use Rattle.failover.specs.declared.mode.Mode.{Mode}
@@ -23,12 +23,12 @@ use Rattle.pair_record.specs.laws.Owed.{brought_ports, brought_landings}
 use Rattle.std.proofs.lemmas.Bool.{leb-false}
 use Rattle.pair_record.specs.laws.Live.{entries_are, live_accords}
 use Rattle.growing_history.specs.Steps.{Step, step, WentLive, Begins, steps_by}
-use Rattle.growing_history.specs.LogState.{LogState, Epoch, state_at, added, after_step, IsNew}
+use Rattle.growing_history.specs.LogState.{LogState, state_at, added, IsNew}
 use Rattle.growing_history.specs.Views.{Member}
 use Rattle.pair_book.specs.{Books.BookState, Calls.is_word_full, Failures.first_of, Standing.KeepsFrames}
 use Rattle.pair_book.specs.GoingLive.{is_backup, go_live_rows, go_live_why}
-use Rattle.pair_book.specs.internal.{Committed.KeepsCommitted, Tie.IsTied, Waits.AreWaiting}
-use Rattle.pair_book.proofs.{CommittedSeals.live-keeps, FailureTies.shown, StandingLaws.frames-bring, Ties.{step-tied, tied-still, way-is}}
+use Rattle.pair_book.specs.internal.{Committed.KeepsCommitted, Tie.IsTied}
+use Rattle.pair_book.proofs.{CommittedSeals.live-keeps, StandingLaws.frames-bring, Ties.{step-tied, shown, sealed-long, tied-as, tied-still, way-is}}
 use Rattle.pair_book.proofs.Words.{word_room}
 
 pub has_stopped : (m : Mode) → change_refusal changes.GoLive m ≡ None → m ≡ Stopped
@@ -86,7 +86,7 @@ live_may start b number first kept e =
       room = word_room b rows.3;
     }
 
-module _ (start : HistoryState) (steps : List Step) (r now : Record) (p q : PortsState) (t : IsTied start steps r p)
+module _ {start : HistoryState} {steps : List Step} {r : Record} {p : PortsState} (t : IsTied start steps r p)
     (c : KeepsCommitted start steps r p) (k : IsRecord r) (numbered : AreNumbered r p) (free : change_refusal changes.GoLive r.mode ≡ None)
     (seat : Member) (mine : seat.number ≡ (state_at start steps).backup) (b : Begins seat.steps steps)
     (own : steps_by seat.number steps ≡ steps_by seat.number seat.steps)
@@ -104,52 +104,38 @@ module _ (start : HistoryState) (steps : List Step) (r now : Record) (p q : Port
       frames-bring start seat steps sent first kept b t.legal own stands r p t c k numbered (ap is_alone stopped)
       (omega (arith, filled, k.window.cut)) mine none
 
-  module _ (runner done : ℕ) (new : IsNew s runner) (is : now ≡ (brought_done r p first kept done).1)
+  module _ {now : Record} {q : PortsState} (runner done : ℕ) (new : IsNew s runner) (is : now ≡ (brought_done r p first kept done).1)
       (ports : q ≡ ports_after_brought p r first kept) where
-    live-boxes : length q.boxes ≡ length p.boxes
-    live-boxes = ap (λ (x : PortsState). length x.boxes) ports ∙ (risen-after p first (brought r first kept)).clients
+    abbrev went : Record
+    went = (brought_done r p first kept done).1
 
-    long : length r.journal.sealed ≡ length s.sealed
-    long = ap (λ (l : List (List Entry)). length l) t.sealed ∙ length-map s.sealed (λ (e : Epoch). e.entries)
-
-    live-next : now.window.to_cut ≡ s.next - length s.sealed
-    live-next =
-        let cut = ap (λ (y : Record). y.window.to_cut) is in
-        omega (arith, cut, long, k.sealed, t.next)
-
-    live-history : s.marked ≡ 0 → now.journal.history ≡ r.journal.history ++ added s (WentLive runner)
+    live-history : s.marked ≡ 0 → went.journal.history ≡ r.journal.history ++ added s (WentLive runner)
     live-history none =
-        let here = shown start steps r now p q t none in
+        let here = shown start steps r p t none in
         let way = way-is start steps r p t in
-        ap (λ (y : Record). y.journal.history) is
-        ∙ ap (λ (es : List Entry). r.journal.history ++ entries_with es r.journal)
+        ap (λ (es : List Entry). r.journal.history ++ entries_with es r.journal)
         (brought_landings r p numbered first kept (brings none))
         ∙ ap (λ (es : List Entry). r.journal.history ++ es) (sym (entries_are start r p (t.accords none)))
         ∙ (λ i. r.journal.history ++ go_live_entries (sym here i) (way i))
 
-    live-accord : s.marked ≡ 0 → Accords start now q
+    live-accord : s.marked ≡ 0 → Accords start went (ports_after_brought p r first kept)
     live-accord none =
         let landed = brought_landings r p numbered first kept (brings none) in
         let there = brought_ports r p numbered first kept (brings none) in
-        let same = is ∙ ap (λ (es : List Entry). (live_done es done r).1) landed in
-        subst (λ (y : Record × PortsState). Accords start y.0 y.1) (λ i. (sym same i, sym (ports ∙ there) i))
+        let same = ap (λ (es : List Entry). (live_done es done r).1) landed in
+        subst (λ (y : Record × PortsState). Accords start y.0 y.1) (λ i. (sym same i, sym there i))
         (live_accords start r p (t.accords none) done)
-
-    live-waits : AreWaiting (after_step s (WentLive runner)) q
-    live-waits =
-        let rest = rest_same-after p first (brought r first kept) in
-        tied-still start steps r p q t (WentLive runner) tt (ap (λ (x : PortsState). x.next) ports ∙ rest.0)
-        (ap (λ (x : PortsState). x.inboxes) ports ∙ rest.1) live-boxes
 
     pub live-tied : IsTied start (steps ++ step 0 (WentLive runner) ∷ []) now q
     live-tied =
-        step-tied start steps r now p q t 0 (WentLive runner) (refl, sym t.mode ∙ stopped, new) (λ none. tt)
-        live-history
-        (ap (λ (y : Record). y.journal.sealed) is)
-        (ap (λ (y : Record). y.journal.running) is)
-        (ap (λ (y : Record). y.mode) is)
-        (ap (λ (y : Record). y.generation) is ∙ ap (λ n. n + 1) t.generation)
-        live-next live-boxes live-waits live-accord
+        let long = sealed-long start steps r p t in
+        let rest = rest_same-after p first (brought r first kept) in
+        let boxes = (risen-after p first (brought r first kept)).clients in
+        let q' = ports_after_brought p r first kept in
+        tied-as is ports
+        (step-tied start steps r went p q' t 0 (WentLive runner) (refl, sym t.mode ∙ stopped, new) (λ none. tt)
+        live-history refl refl refl (ap (λ n. n + 1) t.generation) (omega (arith, long, k.sealed, t.next)) boxes
+        (tied-still start steps r p q' t (WentLive runner) tt rest.0 rest.1 boxes) live-accord)
 
     pub went-live-keeps : KeepsCommitted start (steps ++ step 0 (WentLive runner) ∷ []) now q
     went-live-keeps =

@@ -20,8 +20,8 @@ use Rattle.pair_record.specs.laws.Clients.{lose_in_accords, lose_out_accords}
 pub use Rattle.pair_record.specs.laws.Tables.{lost_waiting, lost_landed, lost_none}
 use Rattle.growing_history.specs.Steps.{Step, step, Added}
 use Rattle.growing_history.specs.LogState.{line_seat, state_at, after_step, under_way, AreOwn, AreKnown}
-use Rattle.pair_book.specs.internal.{Tie.IsTied, Waits.AreWaiting}
-use Rattle.pair_book.proofs.{Ties.{added-tied, way-is, tied-guests, tied-still}, Waits.lost-waiting}
+use Rattle.pair_book.specs.internal.{Tie.IsTied}
+use Rattle.pair_book.proofs.{Ties.{added-tied, tied-as, way-is, tied-guests, tied-still}, Waits.lost-waiting}
 
 -- the ports where a frame was there, and where none was
 pub ports_there : (is_there : Bool) (q after_step p : PortsState) → is_there ≡ true → q ≡ ports_if_lost is_there after_step p → q ≡ after_step
@@ -57,62 +57,33 @@ taken-by-none start r p a c place n f low high there =
     (none-takes n 1 p.next (without_number n s.waiting) ms (AreRising-without n 1 p.next s.waiting a.clients.rising) before.1
     (gone n 1 p.next s.waiting a.clients.rising))
 
-module _ (start : HistoryState) (steps : List Step) (r now : Record) (p q : PortsState) (t : IsTied start steps r p) (c place : ℕ)
+module _ {start : HistoryState} {steps : List Step} {r now : Record} {p q : PortsState} (t : IsTied start steps r p) (c place : ℕ)
     (low : 1 ≤ c) (high : c ≤ length p.boxes) where
   -- LOSEIN
   module _ (n : ℕ) (f : Frame) (there : slice_get (list_of p.inboxes c) place ≡ Some (n, f)) (is : now ≡ (loss_done r (DropIn n)).1)
       (ports : q ≡ ports_after_lose_in p c place) where
-    lost-in-boxes : length q.boxes ≡ length p.boxes
-    lost-in-boxes = ap (λ (x : PortsState). length x.boxes) ports
-
-    lost-in-accords : Accords start r p → Accords start now q
-    lost-in-accords a =
-        subst (λ (y : Record × PortsState). Accords start y.0 y.1) (λ i. (sym is i, sym ports i))
-        (lose_in_accords start r p a c low high place n f there)
-
     lost-in-known : (state_at start steps).marked ≡ 0
         → AreKnown (under_way (state_at start steps)) (state_at start steps).history line_seat (DropIn n ∷ [])
     lost-in-known none =
         (subst (NoneTakes n) (way-is start steps r p t) (taken-by-none start r p (t.accords none) c place n f low high there), tt)
 
-    lost-in-waits : AreWaiting (after_step (state_at start steps) (Added (DropIn n ∷ []))) q
-    lost-in-waits =
-        subst (AreWaiting (after_step (state_at start steps) (Added (DropIn n ∷ [])))) (sym ports)
-        (lost-waiting (state_at start steps) p t.waits (tied-guests start steps r p t) c low high place n f there)
-
     pub lost-in-tied : IsTied start (steps ++ step line_seat (Added (DropIn n ∷ [])) ∷ []) now q
     lost-in-tied =
-        added-tied start steps r now p q t line_seat (DropIn n ∷ []) (refl, tt) lost-in-known is lost-in-boxes
-        lost-in-waits lost-in-accords
+        tied-as is ports
+        (added-tied start steps r p (ports_after_lose_in p c place) t line_seat (DropIn n ∷ []) (refl, tt) lost-in-known refl
+        (lost-waiting (state_at start steps) p t.waits (tied-guests start steps r p t) c low high place n f there)
+        (λ a. lose_in_accords start r p a c low high place n f there))
 
   -- LOSEOUT
   module _ (there : place < length (list_of p.boxes c)) (few : length (list_of p.boxes c) ≤ box_frames)
       (is : now ≡ (loss_done r (DropOut c place)).1) (ports : q ≡ ports_after_lose_out p c place) where
-    lost-out-boxes : length q.boxes ≡ length p.boxes
-    lost-out-boxes =
-        ap (λ (x : PortsState). length x.boxes) ports ∙ length-set p.boxes (c - 1) (remove (list_of p.boxes c) place)
-
-    lost-out-accords : Accords start r p → Accords start now q
-    lost-out-accords a =
-        subst (λ (y : Record × PortsState). Accords start y.0 y.1) (λ i. (sym is i, sym ports i))
-        (lose_out_accords start r p a c low high place there)
-
-    within : nat_lt place box_frames ≡ true
-    within = lt-ltb place box_frames (omega (arith, there, few))
-
-    lost-out-own : AreOwn line_seat (DropOut c place ∷ [])
-    lost-out-own = (ap (λ (b : Bool). cond b line_seat 0) (sym within), tt)
-
-    lost-out-known : (state_at start steps).marked ≡ 0
-        → AreKnown (under_way (state_at start steps)) (state_at start steps).history line_seat (DropOut c place ∷ [])
-    lost-out-known none = (λ (e : line_seat ≡ 0). absurd (cc e), tt)
-
-    lost-out-waits : AreWaiting (after_step (state_at start steps) (Added (DropOut c place ∷ []))) q
-    lost-out-waits =
-        tied-still start steps r p q t (Added (DropOut c place ∷ [])) (tt, tt) (ap (λ (x : PortsState). x.next) ports)
-        (ap (λ (x : PortsState). x.inboxes) ports) lost-out-boxes
-
     pub lost-out-tied : IsTied start (steps ++ step line_seat (Added (DropOut c place ∷ [])) ∷ []) now q
     lost-out-tied =
-        added-tied start steps r now p q t line_seat (DropOut c place ∷ []) lost-out-own lost-out-known is lost-out-boxes
-        lost-out-waits lost-out-accords
+        let within : nat_lt place box_frames ≡ true = lt-ltb place box_frames (omega (arith, there, few)) in
+        let own : AreOwn line_seat (DropOut c place ∷ []) = (ap (λ (b : Bool). cond b line_seat 0) (sym within), tt) in
+        let boxes = length-set p.boxes (c - 1) (remove (list_of p.boxes c) place) in
+        let q' = ports_after_lose_out p c place in
+        tied-as is ports
+        (added-tied start steps r p q' t line_seat (DropOut c place ∷ []) own (λ none. (λ (e : line_seat ≡ 0). absurd (cc e), tt)) boxes
+        (tied-still start steps r p q' t (Added (DropOut c place ∷ [])) (tt, tt) refl refl boxes)
+        (λ a. lose_out_accords start r p a c low high place there))

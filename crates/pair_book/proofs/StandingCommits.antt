@@ -2,7 +2,7 @@
 use Rattle.std.proofs.Common.{◌≡◌, ◌≢◌, ℕ, zero, suc, ◌+◌, ◌-◌, ◌<◌, ◌≤◌, List, [], ◌∷◌, ◌++◌, length, take, drop, refl, sym, ap, ◌∙◌}
 use Rattle.std.proofs.Common.{subst, cond, Bool, true, false, arith, Option, Some}
 use Rattle.std.proofs.Math.Bridge.{le_prop}
-use Rattle.std.proofs.lemmas.{Bool.eqb-true, List.{append-nil, append_cancel_right, length-drop, length-map}, Slice.Eq.bytes_eq-Decides}
+use Rattle.std.proofs.lemmas.{Bool.eqb-true, List.{append-nil, append_cancel_right, length-drop}, Slice.Eq.bytes_eq-Decides}
 use Rattle.std.specs.Prelude.{◌==◌, nat_eq}
 use Rattle.std.specs.Cmp.Lexicographic.{pointwise}
 use mathlib.Core.HLevel.{is_prop→PathP}
@@ -37,7 +37,7 @@ use Rattle.pair_book.specs.Commits.{commit_of, kept_then, sent_then, first_then,
 use Rattle.pair_book.specs.Made.{IsShape, Reads}
 use Rattle.pair_book.specs.Standing.{first_sent, commits_of, KeepsLast, ack_before, last_ack, IsLive, Stands}
 use Rattle.pair_book.specs.internal.{Committed.KeepsCommitted, Tie.IsTied}
-use Rattle.pair_book.proofs.{CommittedLaws.commits-snoc, CommitTies.not-alone, StandingLaws.{stands-on, keeps-more}}
+use Rattle.pair_book.proofs.{CommittedLaws.commits-snoc, CommitTies.not-alone, StandingLaws.{stands-on, keeps-more}, Ties.sealed-long}
 use Rattle.failover.specs.Modes.{is_filling}
 
 -- WHAT WAS READ is what the sealed text reads back as
@@ -135,7 +135,7 @@ module _ (start : HistoryState) (steps : List Step) (r : Record) (p : PortsState
   live = (mine, subst (λ (m : Mode). IsAlone m → ⊥) t.mode (not-alone r.mode pair))
 
   long : length r.journal.sealed ≡ length s.sealed
-  long = ap (λ (l : List (List Entry)). length l) t.sealed ∙ length-map s.sealed (λ (e : Epoch). e.entries)
+  long = sealed-long start steps r p t
 
   first-is : IsFirstSealed c.number s.sealed
   first-is =
@@ -266,8 +266,7 @@ stands-again start steps r p t k seat after_step mine pair low begins own is ack
     let on = stands-on start seat steps image last sent first kept begins t.legal own stood in
     let live : IsLive start (record { number = seat.number; steps = steps }) =
     (mine, subst (λ (m : Mode). IsAlone m → ⊥) t.mode (not-alone r.mode pair)) in
-    let long : length r.journal.sealed ≡ length s.sealed =
-    ap (λ (l : List (List Entry)). length l) t.sealed ∙ length-map s.sealed (λ (e : Epoch). e.entries) in
+    let long = sealed-long start steps r p t in
     let place : s.next - length s.sealed ≡ r.window.to_commit = omega (arith, long, k.sealed, t.next) in
     let there : last_ack s ≡ Some (before_ack r) =
     ap (λ (g : ℕ). ack_before g (s.next - length s.sealed)) (sym t.generation)

@@ -1,13 +1,13 @@
 -- A backup goes on standing: when it looks, and by its commits.
 use Rattle.std.proofs.Common.{◌≡◌, ℕ, zero, suc, ◌+◌, ◌-◌, ◌≤◌, List, [], ◌∷◌, ◌++◌, length, drop, sym, ap, ◌∙◌, subst, refl, false, arith}
 use Rattle.std.proofs.Common.{Option}
-use Rattle.std.proofs.lemmas.List.{append-nil, drop-append-le, drop-drop, length-append, length-drop, length-map}
+use Rattle.std.proofs.lemmas.List.{append-nil, drop-append-le, drop-drop, length-append, length-drop}
 use Rattle.std.specs.Prelude.{IsSome}
 use Rattle.failover.specs.declared.mode.Mode.{Mode}
 use Rattle.failover.specs.declared.mode.Mode.TheVariants.{Stopped}
 use Rattle.frame_ports.specs.Ports.{PortsState}
 use Rattle.guest_machine.specs.Guest.{Guest}
-use Rattle.pair_history.specs.Entries.{Frame, Entry}
+use Rattle.pair_history.specs.Entries.{Frame}
 use Rattle.pair_history.specs.HistoryState.{HistoryState}
 use Rattle.pair_record.specs.Kept.{all_frames, Brings}
 use Rattle.pair_record.specs.Modes.{is_alone}
@@ -15,14 +15,14 @@ use Rattle.pair_record.specs.Protocol.{Record}
 use Rattle.pair_record.specs.Record.{IsRecord, AreNumbered, SuitsMode}
 use Rattle.pair_record.specs.Landed.{all_frames-append}
 use Rattle.growing_history.specs.Steps.{Step, Begins, steps_by}
-use Rattle.growing_history.specs.LogState.{LogState, Epoch, LegalSteps, state_at, IsAlone}
+use Rattle.growing_history.specs.LogState.{LogState, LegalSteps, state_at, IsAlone}
 use Rattle.growing_history.specs.Views.{Member}
 use Rattle.growing_history.specs.laws.Logs.{live-rise, marks-rise}
 use Rattle.growing_history.specs.laws.MissedByBackup.{backup-misses-nothing}
 use Rattle.pair_book.specs.declared.failures.Ack.{Ack}
 use Rattle.pair_book.specs.Standing.{commits_of, last_four, KeepsLast, KeepsFrames, ack_before, Stands}
 use Rattle.pair_book.specs.internal.{Committed.KeepsCommitted, Tie.IsTied}
-use Rattle.pair_book.proofs.{AckLaws.acks-missed, CommittedLaws.{commits-missed, owed_brings}, CommitTies.not-alone}
+use Rattle.pair_book.proofs.{AckLaws.acks-missed, CommittedLaws.{commits-missed, owed_brings}, CommitTies.not-alone, Ties.sealed-long}
 use Rattle.failover.specs.Modes.{is_filling}
 
 -- IT LOOKS, and has made no step since
@@ -95,8 +95,7 @@ has-image start steps r p t k stopped number mine image last sent first kept sto
     let s = state_at start steps in
     let pair : IsAlone s.mode → ⊥ = subst (λ (m : Mode). IsAlone m → ⊥) (sym stopped ∙ t.mode) (λ a. a) in
     let low : 1 ≤ r.window.to_commit = subst (λ (m : Mode). SuitsMode m r.window) stopped k.suits in
-    let long : length r.journal.sealed ≡ length s.sealed =
-    ap (λ (l : List (List Entry)). length l) t.sealed ∙ length-map s.sealed (λ (e : Epoch). e.entries) in
+    let long = sealed-long start steps r p t in
     some-ack s.generation (s.next - length s.sealed) last (omega (arith, low, long, k.sealed, t.next)) (stood.committed (mine, pair))
 
 -- and unless a commit is marked it was the guest of the history when it looked last

@@ -338,8 +338,7 @@ module _ (start : HistoryState) (b : BookState) (t : IsTied start b.steps b.prot
             keeps by alone refl epoch);
         texts =
             let numbers = numbers-by Nothing kind in
-            texts-after start b.steps (log (step by (told_as prepared.Nothing epoch))) r now b.texts.packets had by (RanAlone epoch)
-            refl refl numbers.0 numbers.1;
+            texts-after had by (RanAlone epoch) refl refl numbers.0 numbers.1;
         found = entered-found lone (kept-by Nothing kind).0;
       }
 
@@ -356,8 +355,7 @@ module _ (start : HistoryState) (b : BookState) (t : IsTied start b.steps b.prot
         → HasTexts start (log (step by (told_as (prepared.Checkpoint c) epoch))) now (b.texts.packets ++ c ∷ [])
     text-pending kind e generation window =
         let numbers = numbers-by kind e in
-        texts-once-sealed start b.steps (log (step by (told_as (prepared.Checkpoint c) epoch))) r now b.texts.packets
-        (b.texts.packets ++ c ∷ []) had k by epoch c suit.1 suit.2 refl (numbers.0 ∙ generation) (numbers.1 ∙ window) refl
+        texts-once-sealed had k by epoch c suit.1 suit.2 refl (numbers.0 ∙ generation) (numbers.1 ∙ window) refl
 
     full-done : IsFull r.mode r.window.to_cut → Done (prepared.Checkpoint c)
     full-done full =
@@ -518,7 +516,7 @@ module _ (start : HistoryState) (b : BookState) (t : IsTied start b.steps b.prot
             (sym all)
             (submitted-texts start b t keeps had k numbered by what rows arrivals ran fs held sent-so made-so now q xs is-so long-so);
         few =
-            let count = as-many start b.steps b.protocol b.texts.packets had k in
+            let count = as-many had k in
             let less = rows.few in omega (arith, count, less);
         told-is =
             ap (λ (n : ℕ). found what now.journal before n ran) all

@@ -24,9 +24,8 @@ use Rattle.pair_record.specs.laws.{Epochs.entered_is, Handed.parts, NewBackups.f
 use Rattle.pair_record.specs.laws.Handed.{epoch_are, held_are, can, same, along, seal_epoch_accords, enter_epoch_accords}
 use Rattle.growing_history.specs.Steps.{Step, step, Sealed, RanAlone}
 use Rattle.growing_history.specs.LogState.{LogState, Epoch, state_at, sealed_state, entries_of, and_all_land, HasBackup, IsAlone}
-use Rattle.growing_history.specs.LogState.{MaySeal}
+use Rattle.growing_history.specs.LogState.{MaySeal, hands_out}
 use Rattle.pair_history.specs.laws.Histories.{guests-append, boxes-stay}
-use Rattle.growing_history.specs.laws.Logs.{history-stands}
 use Rattle.growing_history.specs.laws.Seats.{seats-last}
 use Rattle.growing_history.specs.Waiting.{StillWait}
 use Rattle.growing_history.specs.laws.Waiting.{sealed-wait}
@@ -34,7 +33,8 @@ use Rattle.pair_book.specs.Handing.{handing, handed_next}
 use Rattle.pair_book.specs.Settled.{epoch_of}
 use Rattle.pair_book.specs.internal.{Tie.IsTied, Waits.AreWaiting}
 use Rattle.pair_book.specs.laws.EpochWords.{epoch-is, rest-is, epoch-guests, is-epoch, handed-parts, entered-wait}
-use Rattle.pair_book.proofs.{HandedNext.{Hands, hands}, Ties.{step-tied, sealed-joined, tied-guests}, Waits.still-waiting}
+use Rattle.pair_book.proofs.{HandedNext.{Hands, hands, running_as}, Waits.still-waiting}
+use Rattle.pair_book.proofs.Ties.{step-tied, shown, sealed-are, sealed-there, tied-as, tied-guests}
 
 pub entries-push : (es : List Epoch) (e : Epoch) → entries_of (es ++ e ∷ []) ≡ entries_of es ++ e.entries
 entries-push [] e = append-nil e.entries
@@ -53,16 +53,9 @@ module _ (start : HistoryState) (steps : List Step) (r : Record) (p : PortsState
   abbrev rest : List ℕ
   rest = drop (length (arrived_numbers epoch)) s.handed
 
-  shown : s.marked ≡ 0 → s.history ≡ shown_at start r
-  shown none = history-stands start steps ∙ ap (at start) (sym (t.history none))
-
-  sealed-are : entries_of s.sealed ≡ joined r.journal.sealed
-  sealed-are = sym (ap joined t.sealed ∙ sealed-joined s.sealed)
-
   sent-so : s.marked ≡ 0 → fs ≡ epoch_sent start r arrivals ran
   sent-so none =
-      let there : sealed_state s ≡ at start (r.journal.history ++ joined r.journal.sealed) =
-      (λ i. at (shown none i) (sealed-are i)) ∙ sym (at-append start r.journal.history (joined r.journal.sealed)) in
+      let there = sealed-there start steps r p t none in
       sent none ∙ (λ i. sent_along (there i) (sym (epoch-is s.handed arrivals ran r.journal.running t.running) i))
 
   guests : AreGuests epoch
@@ -107,19 +100,15 @@ module _ (start : HistoryState) (steps : List Step) (r : Record) (p : PortsState
 
     pub sealed-tied : IsTied start (steps ++ step by (Sealed r.generation (suc n) epoch text) ∷ []) now q
     sealed-tied =
-        step-tied start steps r now p q t by (Sealed r.generation (suc n) epoch text)
+        tied-as given.protocol refl
+        (step-tied start steps r (running_as (map Arrive (hands_out rest (at m.history (entries_of m.sealed)))) sealed-record) p q t by
+        (Sealed r.generation (suc n) epoch text)
         (live, subst HasBackup t.mode pair, t.generation, sym to ∙ t.next, is-epoch s.handed arrivals ran r.journal.running t.running s refl)
         (λ none. tt)
-        (λ none. ap (λ (y : Record). y.journal.history) given.protocol ∙ sym (append-nil r.journal.history))
-        (ap (λ (y : Record). y.journal.sealed) given.protocol
-        ∙ ap (λ l. l ++ epoch ∷ []) t.sealed
-        ∙ sym (map-append (λ (x : Epoch). x.entries) s.sealed (e ∷ [])))
-        given.running
-        (ap (λ (y : Record). y.mode) given.protocol ∙ t.mode)
-        (ap (λ (y : Record). y.generation) given.protocol ∙ t.generation)
-        (ap (λ (y : Record). y.window.to_cut) given.protocol ∙ ap (λ (x : ℕ). x + 1) to)
-        given.boxes given.waits
-        (λ none. given.accords (seal_epoch_accords start r p (t.accords none) arrivals ran fs (sent-so none) k))
+        (λ none. sym (append-nil r.journal.history))
+        (ap (λ l. l ++ epoch ∷ []) t.sealed ∙ sym (map-append (λ (x : Epoch). x.entries) s.sealed (e ∷ [])))
+        refl t.mode t.generation (ap (λ (x : ℕ). x + 1) to) given.boxes given.waits
+        (λ none. given.accords (seal_epoch_accords start r p (t.accords none) arrivals ran fs (sent-so none) k)))
 
   -- WHERE NOTHING IS SEALED OR PENDING the epoch enters the history, and what was sent along it lands
   module _ (lone : IsLone r) where
@@ -133,7 +122,7 @@ module _ (start : HistoryState) (steps : List Step) (r : Record) (p : PortsState
     landed = landings p.boxes (targets_of (length p.boxes) fs)
 
     none-sealed : entries_of s.sealed ≡ []
-    none-sealed = sealed-are ∙ ap joined lone.0
+    none-sealed = sealed-are start steps r p t ∙ ap joined lone.0
 
     lands : s.marked ≡ 0 → all_land (at s.history epoch) ≡ landed
     lands none =
@@ -144,7 +133,7 @@ module _ (start : HistoryState) (steps : List Step) (r : Record) (p : PortsState
         let so = sent-so none in
         let sealed : List Move = sealed_now start r p a in
         let there : at s.history epoch ≡ moved here (sealed ++ ms) =
-        (λ i. at (shown none i) epoch)
+        (λ i. at (shown start steps r p t none i) epoch)
         ∙ sym (at-append start r.journal.history epoch)
         ∙ (λ i. at start (r.journal.history ++ (joined (sym lone.0 i) ++ epoch)))
         ∙ entered_is start r p a ms part.held epoch (behind arrivals r.journal.running) (epoch_are start r p a arrivals ran)
@@ -187,17 +176,12 @@ module _ (start : HistoryState) (steps : List Step) (r : Record) (p : PortsState
 
       pub alone-tied : IsTied start (steps ++ step by (RanAlone epoch) ∷ []) now q
       alone-tied =
-          step-tied start steps r now p q t by (RanAlone epoch)
+          tied-as given-alone.protocol refl
+          (step-tied start steps r (running_as (map Arrive (hands_out rest then.history)) entered-record) p q t by (RanAlone epoch)
           (live, subst IsAlone t.mode alone, is-epoch s.handed arrivals ran r.journal.running t.running s refl)
           (λ none. tt)
-          (λ none. ap (λ (y : Record). y.journal.history) given-alone.protocol ∙ grown none)
-          (ap (λ (y : Record). y.journal.sealed) given-alone.protocol ∙ sym lone.0 ∙ t.sealed)
-          given-alone.running
-          (ap (λ (y : Record). y.mode) given-alone.protocol ∙ t.mode)
-          (ap (λ (y : Record). y.generation) given-alone.protocol ∙ t.generation)
-          (ap (λ (y : Record). y.window.to_cut) given-alone.protocol ∙ t.next)
-          (given-alone.boxes ∙ long) given-alone.waits
-          (λ none. given-alone.accords (entered-accords none))
+          grown (sym lone.0 ∙ t.sealed) refl t.mode t.generation t.next (given-alone.boxes ∙ long) given-alone.waits
+          (λ none. given-alone.accords (entered-accords none)))
 
     -- WITH A FULL CHECKPOINT an empty epoch is sealed behind it
     module _ (text : List ℕ) (to : r.window.to_cut ≡ 0) (filling : MaySeal 0 r.mode) (now : Record) (q : PortsState)
@@ -223,15 +207,11 @@ module _ (start : HistoryState) (steps : List Step) (r : Record) (p : PortsState
 
       pub full-tied : IsTied start (steps ++ step by (Sealed r.generation 0 epoch text) ∷ []) now q
       full-tied =
-          step-tied start steps r now p q t by (Sealed r.generation 0 epoch text)
+          tied-as given-full.protocol refl
+          (step-tied start steps r (running_as (map Arrive (hands_out rest filled.history)) (full_done entered-record).1) p q t by
+          (Sealed r.generation 0 epoch text)
           (live, subst (MaySeal 0) t.mode filling, t.generation, sym to ∙ t.next, is-epoch s.handed arrivals ran r.journal.running t.running s refl)
           (λ none. tt)
-          (λ none. ap (λ (y : Record). y.journal.history) given-full.protocol ∙ grown none)
-          (ap (λ (y : Record). y.journal.sealed) given-full.protocol)
-          given-full.running
-          (ap (λ (y : Record). y.mode) given-full.protocol ∙ t.mode)
-          (ap (λ (y : Record). y.generation) given-full.protocol ∙ t.generation)
-          (ap (λ (y : Record). y.window.to_cut) given-full.protocol ∙ ap (λ (x : ℕ). x + 1) to)
-          (given-full.boxes ∙ long) given-full.waits
+          grown refl refl t.mode t.generation (ap (λ (x : ℕ). x + 1) to) (given-full.boxes ∙ long) given-full.waits
           (λ none. given-full.accords
-          (full_accords start entered-record landed-ports (entered-accords none) (within r.window r.pending k.window)))
+          (full_accords start entered-record landed-ports (entered-accords none) (within r.window r.pending k.window))))

@@ -101,9 +101,9 @@ no-epochs [] e = refl
 no-epochs (x ∷ es) e = absurd (cc)
 
 -- WHERE NOTHING IS PENDING there are none
-pub no-texts : (start : HistoryState) (steps : List Step) (r : Record) (p : PortsState) (ps : List PacketState) → IsTied start steps r p
+pub no-texts : {start : HistoryState} {steps : List Step} {r : Record} {p : PortsState} {ps : List PacketState} → IsTied start steps r p
     → r.journal.sealed ≡ [] → r.window.to_acknowledge ≡ r.window.to_cut → ps ≡ [] → HasTexts start steps r ps
-no-texts start steps r p ps t none window empty = subst (λ (l : List PacketState). HasTexts start steps r l) (sym empty) (record {
+no-texts {start} {steps} {r} t none window empty = subst (λ (l : List PacketState). HasTexts start steps r l) (sym empty) (record {
   pending = tt;
   count = omega (arith, window);
   sealed =
@@ -241,44 +241,44 @@ module _ (start : HistoryState) (steps : List Step) (r now : Record) (ps : List 
           ∙ ap (λ (l : List (List ℕ)). l ++ p.text ∷ []) (sym h.sealed)
 
 -- A STEP that seals nothing and commits nothing, of a record whose generation and window stay
-pub texts-after : (start : HistoryState) (steps steps' : List Step) (r now : Record) (ps : List PacketState) → HasTexts start steps r ps
+pub texts-after : {start : HistoryState} {steps steps' : List Step} {r now : Record} {ps : List PacketState} → HasTexts start steps r ps
     → (by : ℕ) (what : What) → (after_step (state_at start steps) what).sealed ≡ (state_at start steps).sealed
     → steps' ≡ steps ++ step by what ∷ [] → now.generation ≡ r.generation → now.window ≡ r.window → HasTexts start steps' now ps
-texts-after start steps steps' r now ps h by what same is generation window =
+texts-after {start} {steps} {r} {now} {ps} h by what same is generation window =
     subst (λ (l : List Step). HasTexts start l now ps) (sym is)
     (texts-longer start steps now now ps (texts-same start steps r now ps h generation window) by what same)
 
-pub texts-added : (start : HistoryState) (steps steps' : List Step) (r now : Record) (ps : List PacketState) → HasTexts start steps r ps
+pub texts-added : {start : HistoryState} {steps steps' : List Step} {r now : Record} {ps : List PacketState} → HasTexts start steps r ps
     → (by : ℕ) (es : List Entry) → steps' ≡ steps ++ step by (Added es) ∷ [] → now.generation ≡ r.generation → now.window ≡ r.window
     → HasTexts start steps' now ps
-texts-added start steps steps' r now ps h by es = texts-after start steps steps' r now ps h by (Added es) refl
+texts-added h by es = texts-after h by (Added es) refl
 
 -- what an acknowledgement leaves
-pub texts-left : (start : HistoryState) (steps : List Step) (r now : Record) (ps left : List PacketState) → HasTexts start steps r ps
+pub texts-left : {start : HistoryState} {steps : List Step} {r now : Record} {ps left : List PacketState} → HasTexts start steps r ps
     → IsRecord r → (n : ℕ) → n < r.window.to_commit → now.generation ≡ r.generation → now.window ≡ with_acknowledged n r.window
     → left ≡ above n ps → HasTexts start steps now left
-texts-left start steps r now ps left h k n below generation window is =
+texts-left {start} {steps} {r} {now} {ps} h k n below generation window is =
     subst (λ (l : List PacketState). HasTexts start steps now l) (sym is)
     (texts-acked start steps r now ps h k n below generation window)
 
 -- WHAT CALLS of a commit and of a submit leave, where the steps have grown by that one
 
-pub texts-once-committed : (start : HistoryState) (steps steps' : List Step) (r now : Record) (ps : List PacketState)
+pub texts-once-committed : {start : HistoryState} {steps steps' : List Step} {r now : Record} {ps : List PacketState}
     → HasTexts start steps r ps → IsRecord r → (by g n : ℕ) (text : List ℕ) → steps' ≡ steps ++ step by (Committed g n text) ∷ []
     → now.generation ≡ r.generation → now.window ≡ with_commit r.window → HasTexts start steps' now ps
-texts-once-committed start steps steps' r now ps h k by g n text is generation window =
+texts-once-committed {start} {steps} {r} {now} {ps} h k by g n text is generation window =
     subst (λ (l : List Step). HasTexts start l now ps) (sym is)
     (texts-committed start steps r now ps h k by g n text generation window)
 
-pub texts-once-sealed : (start : HistoryState) (steps steps' : List Step) (r now : Record) (ps left : List PacketState)
+pub texts-once-sealed : {start : HistoryState} {steps steps' : List Step} {r now : Record} {ps left : List PacketState}
     → HasTexts start steps r ps → IsRecord r → (by : ℕ) (epoch : List Entry) (p : PacketState) → p.generation ≡ r.generation
     → p.number ≡ r.window.to_cut → steps' ≡ steps ++ step by (Sealed p.generation p.number epoch p.text) ∷ []
     → now.generation ≡ r.generation → now.window ≡ with_cut r.window → left ≡ ps ++ p ∷ [] → HasTexts start steps' now left
-texts-once-sealed start steps steps' r now ps left h k by epoch p generation number is same window pushed =
+texts-once-sealed {start} {steps} {r} {now} {ps} h k by epoch p generation number is same window pushed =
     subst (λ (x : List Step × List PacketState). HasTexts start x.0 now x.1) (λ i. (sym is i, sym pushed i))
     (texts-sealed start steps r now ps h k by epoch p generation number same window)
 
 -- there is room for one more text where fewer than four are pending
-pub as-many : (start : HistoryState) (steps : List Step) (r : Record) (ps : List PacketState) → HasTexts start steps r ps → IsRecord r
+pub as-many : {start : HistoryState} {steps : List Step} {r : Record} {ps : List PacketState} → HasTexts start steps r ps → IsRecord r
     → length ps ≡ length r.pending
-as-many start steps r ps h k = omega (arith, h.count, k.window.count)
+as-many h k = omega (arith, h.count, k.window.count)

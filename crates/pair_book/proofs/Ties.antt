@@ -6,14 +6,15 @@ use Rattle.pair_history.specs.HistoryState.{HistoryState, at}
 use Rattle.pair_history.specs.HistoryState as history
 use Rattle.pair_history.specs.Order.{AreGuests}
 use Rattle.pair_history.specs.laws.Moves.{Legal-moves}
-use Rattle.pair_history.specs.laws.Histories.{Legal-append}
-use Rattle.pair_record.specs.Journal.{joined, kept_entries, with_history}
-use Rattle.pair_record.specs.Protocol.{Record}
+use Rattle.std.proofs.lemmas.List.{length-map}
+use Rattle.pair_history.specs.laws.Histories.{Legal-append, at-append}
+use Rattle.pair_record.specs.Journal.{Journal, joined, kept_entries, with_history}
+use Rattle.pair_record.specs.Protocol.{Record, shown_at}
 use Rattle.pair_record.specs.Accords.{Accords, kept_moves}
 use Rattle.pair_record.specs.laws.Accords.{kept_is}
 use Rattle.growing_history.specs.Steps.{What, Step, step, Added}
 use Rattle.growing_history.specs.LogState.{LogState, Epoch, LegalSteps, Needs, MayStep, DropsKnown, AreOwn, AreKnown}
-use Rattle.growing_history.specs.LogState.{state_at, history_of, entries_of, under_way, added, after_step}
+use Rattle.growing_history.specs.LogState.{state_at, sealed_state, history_of, entries_of, under_way, added, after_step}
 use Rattle.growing_history.specs.laws.Logs.{goes-on, state-snoc, history-snoc, history-stands, marked}
 use Rattle.pair_history.specs.laws.Histories.{legal-second}
 use Rattle.growing_history.specs.Waiting.{IsStill}
@@ -34,12 +35,27 @@ all-legal start r p a =
     (subst (history.Legal s) (sym (kept_is start r p a)) (Legal-moves s (kept_moves start r.journal a.journal) a.journal.can))
 
 -- what is kept is what is under way
+kept-way : (j : Journal) (s : LogState) → j.sealed ≡ sealed_entries s → j.running ≡ map Arrive s.handed → kept_entries j ≡ under_way s
+kept-way j s sealed running = (λ i. joined (sealed i) ++ running i) ∙ ap (λ l. l ++ map Arrive s.handed) (sealed-joined s.sealed)
+
 pub way-is : (start : HistoryState) (steps : List Step) (r : Record) (p : PortsState) → IsTied start steps r p
     → kept_entries r.journal ≡ under_way (state_at start steps)
-way-is start steps r p t =
-    ap (λ l. joined l ++ r.journal.running) t.sealed
-    ∙ ap (λ l. l ++ r.journal.running) (sealed-joined (state_at start steps).sealed)
-    ∙ ap (λ l. entries_of (state_at start steps).sealed ++ l) t.running
+way-is start steps r p t = kept-way r.journal (state_at start steps) t.sealed t.running
+
+-- what is sealed is what the record has sealed, and goes on from the state that clients see
+module _ (start : HistoryState) (steps : List Step) (r : Record) (p : PortsState) (t : IsTied start steps r p) where
+  pub shown : (state_at start steps).marked ≡ 0 → (state_at start steps).history ≡ shown_at start r
+  shown none = history-stands start steps ∙ ap (at start) (sym (t.history none))
+
+  pub sealed-are : entries_of (state_at start steps).sealed ≡ joined r.journal.sealed
+  sealed-are = sym (ap joined t.sealed ∙ sealed-joined (state_at start steps).sealed)
+
+  pub sealed-there : (state_at start steps).marked ≡ 0
+      → sealed_state (state_at start steps) ≡ at start (r.journal.history ++ joined r.journal.sealed)
+  sealed-there none = (λ i. at (shown none i) (sealed-are i)) ∙ sym (at-append start r.journal.history (joined r.journal.sealed))
+
+  pub sealed-long : length r.journal.sealed ≡ length (state_at start steps).sealed
+  sealed-long = ap length t.sealed ∙ length-map (state_at start steps).sealed (λ (e : Epoch). e.entries)
 
 -- what is sealed is the guest's
 pub tied-guests : (start : HistoryState) (steps : List Step) (r : Record) (p : PortsState) → IsTied start steps r p
@@ -73,10 +89,7 @@ module _ (start : HistoryState) (steps : List Step) (r now : Record) (p q : Port
   x = step by what
 
   way-now : kept_entries now.journal ≡ under_way (after_step s what)
-  way-now =
-      ap (λ l. joined l ++ now.journal.running) sealed
-      ∙ ap (λ l. l ++ now.journal.running) (sealed-joined (after_step s what).sealed)
-      ∙ ap (λ l. entries_of (after_step s what).sealed ++ l) running
+  way-now = kept-way now.journal (after_step s what) sealed running
 
   history-now : s.marked ≡ 0 → now.journal.history ≡ history_of start steps ++ added s what
   history-now none = grown none ∙ ap (λ l. l ++ added s what) (t.history none)
@@ -117,23 +130,21 @@ module _ (start : HistoryState) (steps : List Step) (r now : Record) (p q : Port
       }
 
 -- A STEP THAT ADDS ENTRIES of clients or of the line
-module _ (start : HistoryState) (steps : List Step) (r now : Record) (p q : PortsState) (t : IsTied start steps r p)
+module _ (start : HistoryState) (steps : List Step) (r : Record) (p q : PortsState) (t : IsTied start steps r p)
     (by : ℕ) (es : List Entry) (own : AreOwn by es)
     (known : (state_at start steps).marked ≡ 0 → AreKnown (under_way (state_at start steps)) (state_at start steps).history by es)
-    (is : now ≡ record r { journal = with_history r.journal es })
     (boxes : length q.boxes ≡ length p.boxes)
     (waits : AreWaiting (after_step (state_at start steps) (Added es)) q)
-    (accords : Accords start r p → Accords start now q) where
-  pub added-tied : IsTied start (steps ++ step by (Added es) ∷ []) now q
+    (accords : Accords start r p → Accords start (record r { journal = with_history r.journal es }) q) where
+  pub added-tied : IsTied start (steps ++ step by (Added es) ∷ []) (record r { journal = with_history r.journal es }) q
   added-tied =
-      step-tied start steps r now p q t by (Added es) own known
-      (λ none. ap (λ (y : Record). y.journal.history) is)
-      (ap (λ (y : Record). y.journal.sealed) is ∙ t.sealed)
-      (ap (λ (y : Record). y.journal.running) is ∙ t.running)
-      (ap (λ (y : Record). y.mode) is ∙ t.mode)
-      (ap (λ (y : Record). y.generation) is ∙ t.generation)
-      (ap (λ (y : Record). y.window.to_cut) is ∙ t.next)
-      boxes waits (λ none. accords (t.accords none))
+      step-tied start steps r (record r { journal = with_history r.journal es }) p q t by (Added es) own known
+      (λ none. refl) t.sealed t.running t.mode t.generation t.next boxes waits (λ none. accords (t.accords none))
+
+-- The laws of a call are stated at the record and the ports that it makes; what it leaves is these.
+pub tied-as : {start : HistoryState} {steps : List Step} {r now : Record} {p q : PortsState} → now ≡ r → q ≡ p → IsTied start steps r p
+    → IsTied start steps now q
+tied-as {start} {steps} is ports t = subst (λ (y : Record × PortsState). IsTied start steps y.0 y.1) (λ i. (sym is i, sym ports i)) t
 
 -- what the history has gained
 pub gained-there : (n : ℕ) (h : List Entry) (r now : Record) (es : List Entry) → n ≡ length r.journal.history → h ≡ now.journal.history

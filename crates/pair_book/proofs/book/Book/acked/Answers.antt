@@ -34,30 +34,24 @@ grown g c = ap (λ (x : Record). x.journal.history) (is-acked g c)
 told : (g : _) (c : In_ok-count g) → drop c.len-before.result c.acknowledge.new.self.protocol.journal.history
     ≡ landed_by c.self.inside.record.ports.boxes c.self.inside.record.protocol c.args.ack.number
 told g c =
-    let r = c.self.inside.record in
     let now = c.acknowledge.new.self in
-    acked-gained g.P.Pair.start c.self.inside.seats.steps r.protocol now.protocol r.ports now.ports c.self.invariant.0 c.args.ack.number
-    c.keep.ensures.record (below g c) (is-acked g c) c.in_ok-count.ensures.ports c.len-before.result now.protocol.journal.history
-    (c.len-before.ensures ∙ ap (λ (es : List Entry). length es) c.history.ensures) refl
+    acked-gained c.self.invariant.0 c.args.ack.number c.keep.ensures.record (below g c) (is-acked g c) c.in_ok-count.ensures.ports
+    c.len-before.result now.protocol.journal.history (c.len-before.ensures ∙ ap (λ (es : List Entry). length es) c.history.ensures) refl
 
 pub tell_alone-requires-clause-tied : goal.tell_alone-requires-clause-tied
 tell_alone-requires-clause-tied g c =
     let at = (goal.at.tell_alone-requires-clause-tied g c).In_ok-count in
     let steps = c.self.inside.seats.steps in
-    let r = c.self.inside.record in
     let now = c.acknowledge.new.self in
     subst (λ (es : List Entry). IsTied g.P.Pair.start (steps ++ step 0 (Added es) ∷ []) now.protocol now.ports) (sym (told g at))
-    (acked-tied g.P.Pair.start steps r.protocol now.protocol r.ports now.ports c.self.invariant.0 c.args.ack.number c.keep.ensures.record
-    (below g at) (is-acked g at) c.in_ok-count.ensures.ports)
+    (acked-tied c.self.invariant.0 c.args.ack.number c.keep.ensures.record (below g at) (is-acked g at) c.in_ok-count.ensures.ports)
 
 pub tell_alone-requires-clause-committed : goal.tell_alone-requires-clause-committed
 tell_alone-requires-clause-committed g c =
     let at = (goal.at.tell_alone-requires-clause-committed g c).In_ok-count in
-    let r = c.self.inside.record in
     let now = c.acknowledge.new.self in
-    acked-keeps g.P.Pair.start c.self.inside.seats.steps r.protocol now.protocol r.ports now.ports c.self.invariant.1 0 c.args.ack.number
-    c.keep.ensures.record c.keep.ensures.numbers c.keep.ensures.clients (below g at) (is-acked g at) c.in_ok-count.ensures.ports
-    (drop c.len-before.result now.protocol.journal.history)
+    acked-keeps c.self.invariant.1 0 c.args.ack.number c.keep.ensures.record c.keep.ensures.numbers c.keep.ensures.clients (below g at)
+    (is-acked g at) c.in_ok-count.ensures.ports (drop c.len-before.result now.protocol.journal.history)
 
 -- the texts that are left
 left : (g : _) (c : After-drop_to g) (is : c.acknowledge.new.self.protocol
@@ -65,25 +59,21 @@ left : (g : _) (c : After-drop_to g) (is : c.acknowledge.new.self.protocol
     → c.args.ack.number < c.self.inside.record.protocol.window.to_commit
     → HasTexts g.P.Pair.start c.self.inside.seats.steps c.acknowledge.new.self.protocol c.drop_to.new.self.packets
 left g c is low =
-    texts-left g.P.Pair.start c.self.inside.seats.steps c.self.inside.record.protocol c.acknowledge.new.self.protocol
-    c.self.inside.texts.packets c.drop_to.new.self.packets c.self.invariant.2 c.keep.ensures.record c.args.ack.number low
-    (ap (λ (x : Record). x.generation) is) (ap (λ (x : Record). x.window) is) (ap (λ (t : TextsState). t.packets) c.drop_to.ensures)
+    texts-left c.self.invariant.2 c.keep.ensures.record c.args.ack.number low (ap (λ (x : Record). x.generation) is)
+    (ap (λ (x : Record). x.window) is) (ap (λ (t : TextsState). t.packets) c.drop_to.ensures)
 
 pub invariant_of-self-else-len-before : goal.invariant_of-self-else-len-before
 invariant_of-self-else-len-before g c =
     let at = (goal.at.invariant_of-self-else-len-before g c).In_ok-count in
-    let start = g.P.Pair.start in
-    let steps = c.self.inside.seats.steps in
     let r = c.self.inside.record in
     let now = c.acknowledge.new.self in
     let n = c.args.ack.number in
     let none : landed_by r.ports.boxes r.protocol n ≡ [] =
     no-more r.protocol.journal.history now.protocol.journal.history (landed_by r.ports.boxes r.protocol n) (grown g at)
     (search (rules, arith, c.if-len-before.false)) in (
-      unmoved-tied start steps r.protocol now.protocol r.ports now.ports c.self.invariant.0 n c.keep.ensures.record (below g at)
-          (is-acked g at) c.in_ok-count.ensures.ports none,
-      unmoved-keeps start steps r.protocol now.protocol r.ports now.ports c.self.invariant.1 0 n c.keep.ensures.record
-          c.keep.ensures.numbers c.keep.ensures.clients (below g at) (is-acked g at) c.in_ok-count.ensures.ports,
+      unmoved-tied c.self.invariant.0 n c.keep.ensures.record (below g at) (is-acked g at) c.in_ok-count.ensures.ports none,
+      unmoved-keeps c.self.invariant.1 0 n c.keep.ensures.record c.keep.ensures.numbers c.keep.ensures.clients (below g at) (is-acked g at)
+          c.in_ok-count.ensures.ports,
       left g (goal.at.invariant_of-self-else-len-before g c).After-drop_to (is-acked g at) (below g at),
     )
 
@@ -93,8 +83,7 @@ invariant_of-self-then-len-before g c =
     let now = c.acknowledge.new.self in (
       c.tell_alone.ensures.tied,
       c.tell_alone.ensures.committed,
-      texts-added g.P.Pair.start c.self.inside.seats.steps c.tell_alone.new.seats.steps now.protocol now.protocol
-          c.drop_to.new.self.packets (left g (goal.at.invariant_of-self-then-len-before g c).After-drop_to (is-acked g at) (below g at)) 0
+      texts-added (left g (goal.at.invariant_of-self-then-len-before g c).After-drop_to (is-acked g at) (below g at)) 0
           (drop c.len-before.result now.protocol.journal.history) (ap (λ (k : Keeper). k.steps) c.tell_alone.ensures.seats) refl refl,
     )
 

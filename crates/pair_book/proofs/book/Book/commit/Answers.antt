@@ -33,12 +33,9 @@ tied : (g : _) (c : In_ok-reply g)
     → IsTied g.P.Pair.start (c.self.inside.seats.steps ++ step c.args.seat.now.number (commit_of c.in-Some-read.checkpoint.now) ∷ [])
     c.commit.new.self.protocol c.commit.new.self.ports
 tied g c =
-    let r = c.self.inside.record in
-    let now = c.commit.new.self in
     let may = may g c in
-    committed-tied g.P.Pair.start c.self.inside.seats.steps r.protocol now.protocol r.ports now.ports c.self.invariant.0
-    c.args.seat.now.number c.in-Some-read.checkpoint.now c.keep.ensures.record may.mine may.pair may.generation may.number may.some
-    (is-committed g c) c.in_ok-reply.ensures.ports
+    committed-tied c.self.invariant.0 c.args.seat.now.number c.in-Some-read.checkpoint.now c.keep.ensures.record may.mine may.pair
+    may.generation may.number may.some (is-committed g c) c.in_ok-reply.ensures.ports
 
 told : (g : _) (c : In-Committed g)
     → (replies.Committed c.in-Committed.generation c.in-Committed.number, c.commit.new.self.protocol)
@@ -54,20 +51,17 @@ step-requires-clause-legal g c = (tied g (goal.at.step-requires-clause-legal g c
 pub invariant_of-self-2 : goal.invariant_of-self-2
 invariant_of-self-2 g c =
     let at = (goal.at.invariant_of-self-2 g c).In_ok-reply in
-    let r = c.self.inside.record in
     let now = c.commit.new.self in
     let change = c.in-Some-read.checkpoint.now in
     let may = may g at in
     let done = is-committed g at in
-    let keeps = committed-keeps g.P.Pair.start c.self.inside.seats.steps r.protocol now.protocol r.ports now.ports c.self.invariant.1
-    c.args.seat.now.number c.self.invariant.0 change c.keep.ensures.record c.keep.ensures.numbers may.pair may.some done
-    c.in_ok-reply.ensures.ports in
+    let keeps = committed-keeps c.self.invariant.1 c.args.seat.now.number c.self.invariant.0 change c.keep.ensures.record
+    c.keep.ensures.numbers may.pair may.some done c.in_ok-reply.ensures.ports in
     let grown = ap (λ (k : Keeper). k.steps) c.step.ensures.keeper in (
       subst (λ (l : List Step). IsTied g.P.Pair.start l now.protocol now.ports) (sym grown) (tied g at),
       subst (λ (l : List Step). KeepsCommitted g.P.Pair.start l now.protocol now.ports) (sym grown) keeps,
-      texts-once-committed g.P.Pair.start c.self.inside.seats.steps c.step.new.self.steps r.protocol now.protocol
-          c.self.inside.texts.packets c.self.invariant.2 c.keep.ensures.record c.args.seat.now.number change.generation change.number
-          (text change) grown (ap (λ (y : Record). y.generation) done) (ap (λ (y : Record). y.window) done),
+      texts-once-committed c.self.invariant.2 c.keep.ensures.record c.args.seat.now.number change.generation change.number (text change)
+          grown (ap (λ (y : Record). y.generation) done) (ap (λ (y : Record). y.window) done),
     )
 
 pub returns-clause-done : goal.returns-clause-done

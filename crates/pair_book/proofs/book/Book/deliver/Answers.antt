@@ -64,33 +64,28 @@ ports-are g c =
 told : (g : _) (c : In-Ok g) → drop c.len-before.result c.deliver.new.self.protocol.journal.history
     ≡ Delivered (client_of c.args.seat.now.number) (record { items = c.args.bytes.now }) c.self.inside.record.ports.next ∷ []
 told g c =
-    let r = c.self.inside.record in
     let now = c.deliver.new.self in
-    delivered-gained g.P.Pair.start c.self.inside.seats.steps r.protocol now.protocol r.ports now.ports c.self.invariant.0
-    c.args.seat.now.number c.requires.client c.args.bytes.now (frame g c) (is-delivered g c) (ports-are g c) c.len-before.result
-    now.protocol.journal.history (c.len-before.ensures ∙ ap (λ (es : List Entry). length es) c.history.ensures) refl
+    delivered-gained c.self.invariant.0 c.args.seat.now.number c.requires.client c.args.bytes.now (frame g c) (is-delivered g c)
+    (ports-are g c) c.len-before.result now.protocol.journal.history
+    (c.len-before.ensures ∙ ap (λ (es : List Entry). length es) c.history.ensures) refl
 
 pub tell-requires-clause-tied : goal.tell-requires-clause-tied
 tell-requires-clause-tied g c =
     let at = (goal.at.tell-requires-clause-tied g c).In-Ok in
     let steps = c.self.inside.seats.steps in
-    let r = c.self.inside.record in
     let now = c.deliver.new.self in
     let by = c.args.seat.now.number in
     subst (λ (es : List Entry). IsTied g.P.Pair.start (steps ++ step by (Added es) ∷ []) now.protocol now.ports) (sym (told g at))
-    (delivered-tied g.P.Pair.start steps r.protocol now.protocol r.ports now.ports c.self.invariant.0 by c.requires.client c.args.bytes.now
-    (frame g at) (is-delivered g at) (ports-are g at))
+    (delivered-tied c.self.invariant.0 by c.requires.client c.args.bytes.now (frame g at) (is-delivered g at) (ports-are g at))
 
 pub tell-requires-clause-committed : goal.tell-requires-clause-committed
 tell-requires-clause-committed g c =
     let at = (goal.at.tell-requires-clause-committed g c).In-Ok in
     let steps = c.self.inside.seats.steps in
-    let r = c.self.inside.record in
     let now = c.deliver.new.self in
     let by = c.args.seat.now.number in
     subst (λ (es : List Entry). KeepsCommitted g.P.Pair.start (steps ++ step by (Added es) ∷ []) now.protocol now.ports) (sym (told g at))
-    (delivered-keeps g.P.Pair.start steps r.protocol now.protocol r.ports now.ports c.self.invariant.1 by (client_of by)
-    (record { items = c.args.bytes.now }) (is-delivered g at) (ports-are g at))
+    (delivered-keeps c.self.invariant.1 by (client_of by) (record { items = c.args.bytes.now }) (is-delivered g at) (ports-are g at))
 
 pub invariant_of-self : goal.invariant_of-self
 invariant_of-self g c =
@@ -98,10 +93,8 @@ invariant_of-self g c =
     let done = is-delivered g (goal.at.invariant_of-self g c).In-Ok in (
       c.tell.ensures.tied,
       c.tell.ensures.committed,
-      texts-added g.P.Pair.start c.self.inside.seats.steps c.tell.new.seats.steps c.self.inside.record.protocol now
-          c.self.inside.texts.packets c.self.invariant.2 c.args.seat.now.number (drop c.len-before.result now.journal.history)
-          (ap (λ (k : Keeper). k.steps) c.tell.ensures.seats)
-          (ap (λ (y : Record). y.generation) done) (ap (λ (y : Record). y.window) done),
+      texts-added c.self.invariant.2 c.args.seat.now.number (drop c.len-before.result now.journal.history)
+          (ap (λ (k : Keeper). k.steps) c.tell.ensures.seats) (ap (λ (y : Record). y.generation) done) (ap (λ (y : Record). y.window) done),
     )
 
 pub returns-in-Ok-clause-step : goal.returns-in-Ok-clause-step
@@ -152,33 +145,30 @@ refusal-told g c =
 told-full : (g : _) (c : In-Err-Full g) → drop c.len-before.result c.deliver.new.self.protocol.journal.history
     ≡ Refused (client_of c.args.seat.now.number) (record { items = c.args.bytes.now }) ∷ []
 told-full g c =
-    let r = c.self.inside.record in
     let now = c.deliver.new.self in
-    refused-gained g.P.Pair.start c.self.inside.seats.steps r.protocol now.protocol r.ports now.ports c.self.invariant.0
-    c.args.seat.now.number c.requires.client c.args.bytes.now (full-rows g c).2 (is-full g c) (refusal-told g c) c.in-Err-Full.ensures.same
-    c.len-before.result now.protocol.journal.history (c.len-before.ensures ∙ ap (λ (es : List Entry). length es) c.history.ensures) refl
+    refused-gained c.self.invariant.0 c.args.seat.now.number c.requires.client c.args.bytes.now (full-rows g c).2 (is-full g c)
+    (refusal-told g c) c.in-Err-Full.ensures.same c.len-before.result now.protocol.journal.history
+    (c.len-before.ensures ∙ ap (λ (es : List Entry). length es) c.history.ensures) refl
 
 pub tell-requires-in-Err-Full-clause-tied : goal.tell-requires-in-Err-Full-clause-tied
 tell-requires-in-Err-Full-clause-tied g c =
     let at = (goal.at.tell-requires-in-Err-Full-clause-tied g c).In-Err-Full in
     let steps = c.self.inside.seats.steps in
-    let r = c.self.inside.record in
     let now = c.deliver.new.self in
     let by = c.args.seat.now.number in
     subst (λ (es : List Entry). IsTied g.P.Pair.start (steps ++ step by (Added es) ∷ []) now.protocol now.ports) (sym (told-full g at))
-    (refused-tied g.P.Pair.start steps r.protocol now.protocol r.ports now.ports c.self.invariant.0 by c.requires.client c.args.bytes.now
-    (full-rows g at).2 (is-full g at) (refusal-told g at) c.in-Err-Full.ensures.same)
+    (refused-tied c.self.invariant.0 by c.requires.client c.args.bytes.now (full-rows g at).2 (is-full g at) (refusal-told g at)
+    c.in-Err-Full.ensures.same)
 
 pub tell-requires-in-Err-Full-clause-committed : goal.tell-requires-in-Err-Full-clause-committed
 tell-requires-in-Err-Full-clause-committed g c =
     let at = (goal.at.tell-requires-in-Err-Full-clause-committed g c).In-Err-Full in
     let steps = c.self.inside.seats.steps in
-    let r = c.self.inside.record in
     let now = c.deliver.new.self in
     let by = c.args.seat.now.number in
     subst (λ (es : List Entry). KeepsCommitted g.P.Pair.start (steps ++ step by (Added es) ∷ []) now.protocol now.ports) (sym (told-full g at))
-    (refused-keeps g.P.Pair.start steps r.protocol now.protocol r.ports now.ports c.self.invariant.1 by (client_of by)
-    (record { items = c.args.bytes.now }) (refusal-told g at) c.in-Err-Full.ensures.same)
+    (refused-keeps c.self.invariant.1 by (client_of by) (record { items = c.args.bytes.now }) (refusal-told g at)
+    c.in-Err-Full.ensures.same)
 
 pub invariant_of-self-in-Err-Full : goal.invariant_of-self-in-Err-Full
 invariant_of-self-in-Err-Full g c =
@@ -186,8 +176,7 @@ invariant_of-self-in-Err-Full g c =
     let done = refusal-told g (goal.at.invariant_of-self-in-Err-Full g c).In-Err-Full in (
       c.tell-in-Err-Full.ensures.tied,
       c.tell-in-Err-Full.ensures.committed,
-      texts-added g.P.Pair.start c.self.inside.seats.steps c.tell-in-Err-Full.new.seats.steps c.self.inside.record.protocol now
-          c.self.inside.texts.packets c.self.invariant.2 c.args.seat.now.number (drop c.len-before.result now.journal.history)
+      texts-added c.self.invariant.2 c.args.seat.now.number (drop c.len-before.result now.journal.history)
           (ap (λ (k : Keeper). k.steps) c.tell-in-Err-Full.ensures.seats)
           (ap (λ (y : Record). y.generation) done) (ap (λ (y : Record). y.window) done),
     )

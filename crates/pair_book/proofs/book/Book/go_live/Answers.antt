@@ -15,17 +15,13 @@ use Rattle.pair_book.proofs.book.Book.go_live.Goals as goal
 pub go_live-runner-requires-clause-legal : goal.go_live-runner-requires-clause-legal
 go_live-runner-requires-clause-legal g c =
     let start = g.P.Pair.start in
-    let steps = c.self.inside.seats.steps in
     let r = c.self.inside.record in
-    let now = c.go_live.new.self in
     let seat = c.args.seat.now in
     let kept : List (List Frame) = map (λ v. v.items) c.args.kept.now in
     let may = live_may start (book_state c.self.inside.seats r c.self.inside.texts) seat.number c.args.first kept (search rules) in
-    let tied = live-tied start steps r.protocol now.protocol r.ports now.ports c.self.invariant.0 c.self.invariant.1
-    c.keep.ensures.record c.keep.ensures.numbers may.free seat may.mine c.meet.ensures.before c.meet.ensures.own c.requires.stands.0
-    c.args.first kept c.requires.stands.1
-    (c.self.inside.seats.enrolled + 1) 0 (search (rules, c.next-new.ensures.new))
-    (ap (λ (o : Outcome). o.1) c.in_ok-go_live.ensures.ok) c.in_ok-go_live.ensures.ports in
+    let tied = live-tied c.self.invariant.0 c.self.invariant.1 c.keep.ensures.record c.keep.ensures.numbers may.free seat may.mine
+    c.meet.ensures.before c.meet.ensures.own c.requires.stands.0 c.args.first kept c.requires.stands.1 (c.self.inside.seats.enrolled + 1) 0
+    (search (rules, c.next-new.ensures.new)) (ap (λ (o : Outcome). o.1) c.in_ok-go_live.ensures.ok) c.in_ok-go_live.ensures.ports in
     subst (λ (k : Keeper). LegalSteps start (k.steps ++ step 0 (WentLive (k.enrolled + 1)) ∷ [])) (sym c.meet.ensures.keeper) tied.legal
 
 pub invariant_of-self-2 : goal.invariant_of-self-2
@@ -37,16 +33,12 @@ invariant_of-self-2 g c =
     let seat = c.args.seat.now in
     let kept : List (List Frame) = map (λ v. v.items) c.args.kept.now in
     let may = live_may start (book_state c.self.inside.seats r c.self.inside.texts) seat.number c.args.first kept (search rules) in
-    let tied = live-tied start steps r.protocol now.protocol r.ports now.ports c.self.invariant.0 c.self.invariant.1
-    c.keep.ensures.record c.keep.ensures.numbers may.free seat may.mine c.meet.ensures.before c.meet.ensures.own c.requires.stands.0
-    c.args.first kept c.requires.stands.1
-    (c.self.inside.seats.enrolled + 1) 0 (search (rules, c.next-new.ensures.new))
-    (ap (λ (o : Outcome). o.1) c.in_ok-go_live.ensures.ok) c.in_ok-go_live.ensures.ports in
-    let keeps = went-live-keeps start steps r.protocol now.protocol r.ports now.ports c.self.invariant.0 c.self.invariant.1
-    c.keep.ensures.record c.keep.ensures.numbers may.free seat may.mine c.meet.ensures.before c.meet.ensures.own c.requires.stands.0
-    c.args.first kept c.requires.stands.1
-    (c.self.inside.seats.enrolled + 1) 0 (search (rules, c.next-new.ensures.new))
-    (ap (λ (o : Outcome). o.1) c.in_ok-go_live.ensures.ok) c.in_ok-go_live.ensures.ports in
+    let tied = live-tied c.self.invariant.0 c.self.invariant.1 c.keep.ensures.record c.keep.ensures.numbers may.free seat may.mine
+    c.meet.ensures.before c.meet.ensures.own c.requires.stands.0 c.args.first kept c.requires.stands.1 (c.self.inside.seats.enrolled + 1) 0
+    (search (rules, c.next-new.ensures.new)) (ap (λ (o : Outcome). o.1) c.in_ok-go_live.ensures.ok) c.in_ok-go_live.ensures.ports in
+    let keeps = went-live-keeps c.self.invariant.0 c.self.invariant.1 c.keep.ensures.record c.keep.ensures.numbers may.free seat may.mine
+    c.meet.ensures.before c.meet.ensures.own c.requires.stands.0 c.args.first kept c.requires.stands.1 (c.self.inside.seats.enrolled + 1) 0
+    (search (rules, c.next-new.ensures.new)) (ap (λ (o : Outcome). o.1) c.in_ok-go_live.ensures.ok) c.in_ok-go_live.ensures.ports in
     let there : c.meet-2.new.self.steps ≡ steps ++ step 0 (WentLive (c.self.inside.seats.enrolled + 1)) ∷ [] =
     ap (λ (k : Keeper). k.steps) (c.meet-2.ensures.keeper ∙ c.go_live-runner.ensures.keeper)
     ∙ ap (λ (k : Keeper). k.steps ++ step 0 (WentLive (k.enrolled + 1)) ∷ []) c.meet.ensures.keeper in
@@ -55,8 +47,7 @@ invariant_of-self-2 g c =
     subst (λ (xs : List Step). IsTied start xs now.protocol now.ports) (sym there) tied in (
       here,
       subst (λ (xs : List Step). KeepsCommitted start xs now.protocol now.ports) (sym there) keeps,
-      no-texts start c.meet-2.new.self.steps now.protocol now.ports c.clear.new.self.packets here
-          (ap (λ (y : Record). y.journal.sealed) done)
+      no-texts here (ap (λ (y : Record). y.journal.sealed) done)
           (ap (λ (y : Record). y.window.to_acknowledge) done ∙ sym (ap (λ (y : Record). y.window.to_cut) done))
           (ap (λ (t : TextsState). t.packets) c.clear.ensures),
     )
@@ -64,16 +55,13 @@ invariant_of-self-2 g c =
 pub returns-clause-owed : goal.returns-clause-owed
 returns-clause-owed g c =
     let start = g.P.Pair.start in
-    let steps = c.self.inside.seats.steps in
     let r = c.self.inside.record in
-    let now = c.go_live.new.self in
     let seat = c.args.seat.now in
     let kept : List (List Frame) = map (λ v. v.items) c.args.kept.now in
     let may = live_may start (book_state c.self.inside.seats r c.self.inside.texts) seat.number c.args.first kept (search rules) in
     subst (λ (b : BookState). (state_at start b.steps).marked ≡ 0 → Brings b.protocol b.ports c.args.first kept) c.self.view_is
-    (brings start steps r.protocol now.protocol r.ports now.ports c.self.invariant.0 c.self.invariant.1
-    c.keep.ensures.record c.keep.ensures.numbers may.free seat may.mine c.meet.ensures.before c.meet.ensures.own c.requires.stands.0
-    c.args.first kept c.requires.stands.1)
+    (brings c.self.invariant.0 c.self.invariant.1 c.keep.ensures.record c.keep.ensures.numbers may.free seat may.mine c.meet.ensures.before
+    c.meet.ensures.own c.requires.stands.0 c.args.first kept c.requires.stands.1)
 
 pub returns-clause-runs : goal.returns-clause-runs
 returns-clause-runs g c =

@@ -19,7 +19,7 @@ pub returns-clause-none : goal.returns-clause-none
 returns-clause-none g c =
     let r = c.self.inside.record.protocol in
     let t = c.self.inside.texts in
-    let count = as-many g.P.Pair.start c.self.inside.seats.steps r t.packets c.self.invariant.2 c.keep.ensures.record in
+    let count = as-many c.self.invariant.2 c.keep.ensures.record in
     rw (← c.self.view_is)
     (subst (λ (o : Option PacketState). IsNone o ↔ (r.pending ≡ [])) (sym c.in_ok-next.ensures.done)
     (next-is-none t.given t.packets r.pending count))

@@ -30,33 +30,27 @@ ports-are g c =
 told : (g : _) (c : In_ok-is_some g) → drop c.len-before.result c.take.new.self.protocol.journal.history
     ≡ Took (client_of c.args.seat.now.number) (slice_get (list_of c.self.inside.record.ports.boxes (client_of c.args.seat.now.number)) 0) ∷ []
 told g c =
-    let r = c.self.inside.record in
     let now = c.take.new.self in
-    took-gained g.P.Pair.start c.self.inside.seats.steps r.protocol now.protocol r.ports now.ports c.self.invariant.0
-    c.args.seat.now.number c.requires.client (is-taken g c) (ports-are g c) c.len-before.result now.protocol.journal.history
-    (c.len-before.ensures ∙ ap (λ (es : List Entry). length es) c.history.ensures) refl
+    took-gained c.self.invariant.0 c.args.seat.now.number c.requires.client (is-taken g c) (ports-are g c) c.len-before.result
+    now.protocol.journal.history (c.len-before.ensures ∙ ap (λ (es : List Entry). length es) c.history.ensures) refl
 
 pub tell-requires-clause-tied : goal.tell-requires-clause-tied
 tell-requires-clause-tied g c =
     let at = (goal.at.tell-requires-clause-tied g c).In_ok-is_some in
     let steps = c.self.inside.seats.steps in
-    let r = c.self.inside.record in
     let now = c.take.new.self in
     let by = c.args.seat.now.number in
     subst (λ (es : List Entry). IsTied g.P.Pair.start (steps ++ step by (Added es) ∷ []) now.protocol now.ports) (sym (told g at))
-    (took-tied g.P.Pair.start steps r.protocol now.protocol r.ports now.ports c.self.invariant.0 by c.requires.client (is-taken g at)
-    (ports-are g at))
+    (took-tied c.self.invariant.0 by c.requires.client (is-taken g at) (ports-are g at))
 
 pub tell-requires-clause-committed : goal.tell-requires-clause-committed
 tell-requires-clause-committed g c =
     let at = (goal.at.tell-requires-clause-committed g c).In_ok-is_some in
     let steps = c.self.inside.seats.steps in
-    let r = c.self.inside.record in
     let now = c.take.new.self in
     let by = c.args.seat.now.number in
     subst (λ (es : List Entry). KeepsCommitted g.P.Pair.start (steps ++ step by (Added es) ∷ []) now.protocol now.ports) (sym (told g at))
-    (took-keeps g.P.Pair.start steps r.protocol now.protocol r.ports now.ports c.self.invariant.1 by (client_of by) (is-taken g at)
-    (ports-are g at))
+    (took-keeps c.self.invariant.1 by (client_of by) (is-taken g at) (ports-are g at))
 
 pub invariant_of-self-2 : goal.invariant_of-self-2
 invariant_of-self-2 g c =
@@ -64,8 +58,7 @@ invariant_of-self-2 g c =
     let done = is-taken g (goal.at.invariant_of-self-2 g c).In_ok-is_some in (
       c.tell.ensures.tied,
       c.tell.ensures.committed,
-      texts-added g.P.Pair.start c.self.inside.seats.steps c.tell.new.seats.steps c.self.inside.record.protocol now
-          c.self.inside.texts.packets c.self.invariant.2 c.args.seat.now.number (drop c.len-before.result now.journal.history)
+      texts-added c.self.invariant.2 c.args.seat.now.number (drop c.len-before.result now.journal.history)
           (ap (λ (k : Keeper). k.steps) c.tell.ensures.seats) (ap (λ (y : Record). y.generation) done) (ap (λ (y : Record). y.window) done),
     )
 

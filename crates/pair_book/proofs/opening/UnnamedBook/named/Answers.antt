@@ -29,7 +29,7 @@ invariant_of-result g c =
       subst (λ (steps : List Step). KeepsCommitted start steps r.protocol r.ports) (sym none)
           (start-keeps start r.protocol r.ports c.self.invariant.0),
       subst (λ (steps : List Step). HasTexts start steps r.protocol c.self.inside.texts.packets) (sym none)
-          (no-texts start [] r.protocol r.ports c.self.inside.texts.packets tied (ap (λ (y : Record). y.journal.sealed) c.self.invariant.0)
+          (no-texts tied (ap (λ (y : Record). y.journal.sealed) c.self.invariant.0)
           (ap (λ (y : Record). y.window.to_acknowledge) c.self.invariant.0 ∙ sym (ap (λ (y : Record). y.window.to_cut) c.self.invariant.0))
           (ap (λ (t : TextsState). t.packets) c.self.invariant.4)),
     )
