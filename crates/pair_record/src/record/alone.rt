@@ -100,7 +100,7 @@ impl PairRecord {
     }
 
     /// Makes room in the history for all that a node that is alone adds where its guest makes steps of which only the last sends: one
-    /// stored entry for the steps, and each of 64 frames landing for each client. Answers how many of this many it may begin.
+    /// stored entry for the steps, and each of 64 frames landing for each client. Answers how many steps of that many it may begin in it.
     ///
     /// # Errors
     ///

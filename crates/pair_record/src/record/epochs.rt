@@ -1,5 +1,6 @@
 //! What happens at the record to epochs of a guest that runs elsewhere: frames are handed out to it, and its epochs come back.
-ghost use Rattle.std.specs.Prelude.{◌≡◌, ◌+◌, ◌<◌, ◌≤◌, length, All, IfOk, OnOk, OnErr, IfSome, OnSome, IfNone, None, true, false, slice_get};
+ghost use Rattle.std.specs.Prelude.{◌≡◌, ◌+◌, ◌<◌, ◌≤◌, length, All, IfOk, OnOk, OnErr, IfSome, OnSome, IfNone, None, true, false};
+ghost use Rattle.std.specs.Prelude.{slice_get};
 ghost use Rattle.frame_ports.specs.Addresses.{IsFrame};
 ghost use Rattle.frame_ports.specs.Ports.{IsClient, inbox_of};
 ghost use Rattle.pair_history.specs.Failures.{arrived_numbers};
