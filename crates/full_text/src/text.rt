@@ -13,7 +13,7 @@ ghost use Rattle.full_text.specs.MachineTexts.{IsKept};
 use crate::found::{used_pages, used_sectors};
 use crate::kept::KeptPages;
 use crate::records::{keep_pages, put, put_four, put_records};
-use checkpoint_stream::{StreamError, encode, text_is_read_back, texts_are_their_parts};
+use checkpoint_stream::{encode, text_is_read_back, texts_are_their_parts};
 use epoch_snapshot::{
     BLOCK_BYTES, Checkpoint, PageChange, full_cuts_are_whole, masks_name_blocks,
     pages_are_their_blocks,
@@ -202,11 +202,7 @@ fn head_of(
     );
     let encoded = encode(alloc, &checkpoint);
     drop(checkpoint);
-    let mut text = match encoded {
-        Ok(text) => text,
-        Err(StreamError::NoMemory(wanted)) => return Err(wanted),
-        Err(StreamError::Malformed(_)) => unreachable!(),
-    };
+    let mut text = encoded?;
     texts_are_their_parts();
     let head = text.len() - 3 * COUNT_BYTES;
     text.truncate(head);
