@@ -7,10 +7,10 @@ ghost use Rattle.pair_book.specs.Made.{Reads, carried};
 ghost use Rattle.book_tests.specs.Machines.{IsLike, Repeats};
 
 use checkpoint_stream::Reader;
-use epoch_snapshot::{Checkpoint, SnapshotError, cut_delta, cut_full};
+use epoch_snapshot::{Checkpoint, cut_delta, cut_full};
 use frame_ports::NUMBER_LIMIT;
 use guest_machine::{Machine, Shape};
-use memory_wanted::from_slice;
+use memory_wanted::{MemoryWanted, from_slice};
 use pair_book::TextPacket;
 use std::alloc::Global;
 use std::marker::Model;
@@ -56,31 +56,24 @@ impl SettledMachine {
     }
 
     /// Its delta of this generation and number.
-    fn delta(
-        &self,
-        alloc: Global,
-        generation: u64,
-        number: u64,
-    ) -> Result<Checkpoint, SnapshotError>
+    fn delta(&self, alloc: Global, generation: u64, number: u64) -> Result<Checkpoint, MemoryWanted>
         requires generations { (1 ≤ generation) × (generation < 2 ^ 62) }
         requires numbers { (1 ≤ number) × (number < 2 ^ 62) }
         ensures { IfOk result (Repeats self.now) }
     {
-        let checkpoint = cut_delta(alloc, &*self.machine, generation, number)?;
-        Ok(checkpoint)
+        cut_delta(alloc, &*self.machine, generation, number)
     }
 
     /// Its full checkpoint of this generation.
-    fn full(&self, alloc: Global, generation: u64) -> Result<Checkpoint, SnapshotError>
+    fn full(&self, alloc: Global, generation: u64) -> Result<Checkpoint, MemoryWanted>
         requires generations { (1 ≤ generation) × (generation < 2 ^ 62) }
         ensures { IfOk result (Repeats self.now) }
     {
-        let checkpoint = cut_full(alloc, &*self.machine, generation)?;
-        Ok(checkpoint)
+        cut_full(alloc, &*self.machine, generation)
     }
 
     /// Its checkpoint of this generation and number: under number 0 the full one.
-    fn cut(&self, alloc: Global, generation: u64, number: u64) -> Result<Checkpoint, SnapshotError>
+    fn cut(&self, alloc: Global, generation: u64, number: u64) -> Result<Checkpoint, MemoryWanted>
         requires generations { (1 ≤ generation) × (generation < 2 ^ 62) }
         requires numbers { number < 2 ^ 62 }
         ensures { IfOk result (Repeats self.now) }

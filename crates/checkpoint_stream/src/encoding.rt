@@ -1,7 +1,6 @@
 //! A checkpoint as its text.
 
-ghost use Rattle.std.specs.Prelude.{◌≡◌, ◌<◌, ◌≤◌, ◌^◌, ◌++◌, length, take, All, IfOk, OnOk, OnErr, Err};
-ghost use Rattle.memory_wanted.specs.Wanted.{wanted};
+ghost use Rattle.std.specs.Prelude.{◌≡◌, ◌<◌, ◌≤◌, ◌^◌, ◌++◌, length, take, All, IfOk, OnOk};
 ghost use Rattle.epoch_snapshot.specs.Checkpoints.{block_count};
 ghost use Rattle.checkpoint_stream.specs.Bounds.{most_text};
 ghost use Rattle.checkpoint_stream.specs.ReadBack.{ReadsBack};
@@ -10,7 +9,6 @@ ghost use Rattle.checkpoint_stream.specs.HeadTable.{bytes_of, head_table};
 ghost use Rattle.checkpoint_stream.specs.Text.{magic, head_numbers, number_units, page_units, sector_units, frame_units, joined, text};
 ghost use Rattle.checkpoint_stream.specs.declared.rules.Width.TheVariants.{Four, Eight};
 
-use crate::errors::StreamError;
 use crate::rules::{HEAD_NUMBERS, NEW_MAGIC, OLD_MAGIC, Width, head_row};
 use crate::widths::{block_widths, state_widths};
 use epoch_snapshot::{BLOCK_BYTES, Block, Checkpoint, PageChange, SectorChange};
@@ -29,15 +27,14 @@ const MOST_HEAD_BYTES: usize = 8 * HEAD_NUMBERS;
 ///
 /// # Errors
 ///
-/// [`StreamError::NoMemory`] where that growth was really refused.
+/// The growth that was really refused.
 #[tactic(auto, unfolding(crate::specs::Text::text, crate::specs::Text::units))]
-pub fn encode(alloc: Global, checkpoint: &Checkpoint) -> Result<Vec<u8>, StreamError>
+pub fn encode(alloc: Global, checkpoint: &Checkpoint) -> Result<Vec<u8>, MemoryWanted>
     requires { checkpoint.now.version ≡ 2 }
     ensures text { IfOk result (λ bytes. bytes.items ≡ text checkpoint.now) }
     ensures read { IfOk result (λ bytes. ReadsBack checkpoint.now bytes.items) }
     ensures widths { OnOk result (HasWidths checkpoint.now) }
     ensures short { IfOk result (λ bytes. length bytes.items ≤ most_text checkpoint.now.shape) }
-    ensures err { OnErr result (result ≡ Err (StreamError.NoMemory wanted)) }
 {
     let pages = checkpoint.pages();
     let blocks = checkpoint.blocks();

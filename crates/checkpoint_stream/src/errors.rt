@@ -7,7 +7,7 @@ ghost use Rattle.checkpoint_stream.specs.declared.errors.StreamError.TheVariants
 use memory_wanted::MemoryWanted;
 use thiserror::Error;
 
-/// Why a checkpoint can't be written or read. Its `Display` text is its name, and where the bytes are malformed the offset.
+/// Why a checkpoint can't be read. Its `Display` text is its name, and where the bytes are malformed the offset.
 #[derive(Debug, Drop, Error)]
 pub enum StreamError {
     /// The unit at this offset, counted modulo 2^64 from where the reader began, breaks its rule.

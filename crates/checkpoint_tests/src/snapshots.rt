@@ -5,8 +5,6 @@ mod frames;
 use crate::asserts::holds;
 use crate::checkpoints::{Cut, Row, assert_cut};
 use crate::guests::{Guest, machine_after};
-use crate::refusals::{assert_named, refused};
-use epoch_snapshot::SnapshotError;
 use std::alloc::Global;
 use std::process::Abort;
 
@@ -66,11 +64,4 @@ fn full_checkpoint_of_the_disk_guest(rt: HostRuntime) {
         Row::Page(1, [1, 0xff17]),
     ];
     assert_cut(&rt, rt.alloc(), (Guest::Disk, 23), Cut::Full(1), &ROWS);
-}
-
-#[test]
-fn refusal_has_its_number_and_name(rt: HostRuntime) {
-    let refused = SnapshotError::from(refused(&rt, rt.alloc()));
-    let found = (refused.number(), refused.name());
-    assert_named(&rt, rt.alloc(), &refused, found, (12, "NoMemory"));
 }

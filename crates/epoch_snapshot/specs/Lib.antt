@@ -5,4 +5,3 @@ pub mod Checkpoints
 pub mod Cuts
 pub mod Images
 pub mod Limits
-pub mod Refusals

@@ -1,18 +1,16 @@
 //! Cuts: the checkpoint of what a machine changed, and the one of all that it holds.
-ghost use Rattle.std.specs.Prelude.{◌≡◌, ◌^◌, ◌<◌, ◌≤◌, IfOk, OnErr, Err, [], length, replicate};
-ghost use Rattle.memory_wanted.specs.Wanted.{wanted};
+ghost use Rattle.std.specs.Prelude.{◌≡◌, ◌^◌, ◌<◌, ◌≤◌, IfOk, [], length, replicate};
 ghost use Rattle.guest_machine.specs.Guest.{Guest, sector_count};
 ghost use Rattle.epoch_snapshot.specs.Bases.{IsBase, IsCheckpointOver};
 ghost use Rattle.epoch_snapshot.specs.Cuts.{used_sectors};
 ghost use Rattle.epoch_snapshot.specs.Images.{image_of};
 
 use crate::checkpoint::Checkpoint;
-use crate::errors::SnapshotError;
 use crate::memory::{Over, push_pages};
 use crate::sectors::{push_used, push_written};
 use frame_list::FrameList;
 use guest_machine::Machine;
-use memory_wanted::with_capacity;
+use memory_wanted::{MemoryWanted, with_capacity};
 use std::alloc::Global;
 
 /// The form in which cuts are written.
@@ -26,20 +24,19 @@ const VERSION: u32 = 2;
 /// the checkpoint is stored.
 ///
 /// # Errors
-/// `NoMemory` where memory is refused.
+/// The growth that was really refused.
 pub fn cut_delta(
     alloc: Global,
     machine: &Machine,
     generation: u64,
     number: u64,
-) -> Result<Checkpoint, SnapshotError>
+) -> Result<Checkpoint, MemoryWanted>
     requires first_generation { 1 ≤ generation }
     requires last_generation { generation < 2 ^ 62 }
     requires first_number { 1 ≤ number }
     requires last_number { number < 2 ^ 62 }
     ensures image { IfOk result (λ c. (base : Guest) → IsBase machine.now base → image_of c base ≡ machine.now.guest) }
     ensures parts { IfOk result (IsCheckpointOver machine.now.settled machine.now.dirty machine.now.outbox machine.now generation number) }
-    ensures err { OnErr result (result ≡ Err (SnapshotError.NoMemory wanted)) }
 {
     let shape = machine.shape();
     // The blocks come last, so that nothing lies behind them where their list has to grow.
@@ -68,18 +65,17 @@ pub fn cut_delta(
 /// The generation is 1 to 2^62 - 1, as the caller knows. The machine stays as it is.
 ///
 /// # Errors
-/// `NoMemory` where memory is refused.
+/// The growth that was really refused.
 pub fn cut_full(
     alloc: Global,
     machine: &Machine,
     generation: u64,
-) -> Result<Checkpoint, SnapshotError>
+) -> Result<Checkpoint, MemoryWanted>
     requires first_generation { 1 ≤ generation }
     requires last_generation { generation < 2 ^ 62 }
     ensures image { IfOk result (λ c. (base : Guest) → image_of c base ≡ machine.now.guest) }
     ensures parts { IfOk result (IsCheckpointOver (replicate (length machine.now.guest.ram) 0)
         (used_sectors machine.now.guest.sectors (sector_count machine.now.guest.sectors)) [] machine.now generation 0) }
-    ensures err { OnErr result (result ≡ Err (SnapshotError.NoMemory wanted)) }
 {
     let shape = machine.shape();
     let mut pages = Vec::new(alloc);

@@ -8,7 +8,6 @@
 mod changes;
 mod checkpoint;
 mod cut;
-mod errors;
 mod laws;
 mod limits;
 mod memory;
@@ -17,7 +16,6 @@ mod sectors;
 pub use changes::{BLOCK_BYTES, Block, PageChange, SectorChange};
 pub use checkpoint::{Checkpoint, MOST_OLD_PAGES};
 pub use cut::{cut_delta, cut_full};
-pub use errors::SnapshotError;
 pub use laws::{
     changes_are_found_in_turn, full_cuts_are_whole, masks_name_blocks, pages_are_their_blocks,
 };

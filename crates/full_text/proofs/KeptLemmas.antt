@@ -145,20 +145,20 @@ records-plain own ram (p ∷ ps) within =
     let later = All-tail (λ (p : PageChange). 4096 * p.page + 4096 ≤ length ram) p ps within in
     λ i. (bytes_of Four p.page ++ bytes_of Eight p.mask ++ joined (own ram p here i)) ++ records-plain own ram ps later i
 
--- ---- the last records are made, and the tail behind them
+-- ---- the last records are made, and of the tail behind them a part
 
-pub make-end : (f : ℕ → List ℕ) (made out tail : List ℕ) (pages slice : List PageChange) (next r : ℕ)
+pub make-end : (f : ℕ → List ℕ) (made out all tail left : List ℕ) (pages slice : List PageChange) (next r : ℕ)
     → out ++ page_records f (drop r slice) ≡ made ++ page_records f slice → slice ≡ drop next pages → length pages ≤ next + r
-    → (out ++ tail) ++ (page_records f (drop (next + r) pages) ++ []) ≡ made ++ (page_records f (drop next pages) ++ tail)
-make-end f made out tail pages slice next r e is past =
+    → all ++ left ≡ out ++ tail → all ++ (page_records f (drop (next + r) pages) ++ left) ≡ made ++ (page_records f (drop next pages) ++ tail)
+make-end f made out all tail left pages slice next r e is past put =
     let none : drop (next + r) pages ≡ [] = drop_all (next + r) pages past in
     let gone : drop r slice ≡ [] = ap (drop r) is ∙ drop-drop r next pages ∙ none in
-    let all : out ≡ made ++ page_records f slice =
+    let records : out ≡ made ++ page_records f slice =
     sym (append-nil out) ∙ ap (λ l. out ++ l) (sym (records-none f)) ∙ ap (λ ps. out ++ page_records f ps) (sym gone) ∙ e in
-    ap (λ ps. (out ++ tail) ++ (page_records f ps ++ [])) none
-    ∙ ap (λ l. (out ++ tail) ++ (l ++ [])) (records-none f)
-    ∙ append-nil (out ++ tail)
-    ∙ ap (λ l. l ++ tail) all
+    ap (λ ps. all ++ (page_records f ps ++ left)) none
+    ∙ ap (λ l. all ++ (l ++ left)) (records-none f)
+    ∙ put
+    ∙ ap (λ l. l ++ tail) records
     ∙ append_assoc made (page_records f slice) tail
     ∙ ap (λ ps. made ++ (page_records f ps ++ tail)) is
 

@@ -36,6 +36,10 @@ page_records bytes (p ∷ ps) = page_record (bytes p.page) p ++ page_records byt
 abbrev pub record_size : PageChange → ℕ
 record_size p = 12 + 64 * count_ones p.mask
 
+-- none has more: 64 blocks of 64 bytes behind 12 bytes
+abbrev pub most_record : ℕ
+most_record = 4108
+
 abbrev pub records_size : List PageChange → ℕ
 records_size ps = sum_by record_size ps
 

@@ -1,5 +1,5 @@
 -- A machine, and the texts of its checkpoints that are pending.
-use Rattle.std.specs.Prelude.{◌≡◌, ℕ, List, [], Option, length, replicate, false}
+use Rattle.std.specs.Prelude.{◌≡◌, ℕ, ◌^◌, List, [], Option, None, Some, length, replicate, false}
 use Rattle.guest_machine.specs.Guest.{State}
 use Rattle.full_text.specs.Full.{Making, whole}
 
@@ -13,6 +13,15 @@ pub record Texts : Type 0 where
   pub texts : List (List ℕ)
   -- the first one, where it is a full checkpoint's, which may be made in part
   pub full : Option Making
+
+-- how many bytes of the full text are made
+abbrev pub made_bytes : Option Making → ℕ
+made_bytes None = 0
+made_bytes (Some f) = length f.made
+
+-- and how many more are made where a part of it is asked for
+abbrev pub ahead : ℕ
+ahead = 2 ^ 20
 
 -- a machine that is settled
 abbrev pub settled_at : State → State

@@ -2,4 +2,5 @@
 pub mod CutRecords
 pub mod Fields
 pub mod KeptFields
+pub mod TailFields
 pub mod TextFields

@@ -11,6 +11,7 @@ mod kept;
 mod machine_texts;
 mod records;
 mod rows;
+mod tail;
 mod text;
 
 pub use machine_texts::MachineTexts;

@@ -1,12 +1,12 @@
 //! A machine, and the texts of its checkpoints that are pending.
-ghost use Rattle.std.specs.Prelude.{◌≡◌, ◌≤◌, ◌<◌, ◌+◌, ◌∷◌, ◌++◌, ℕ, List, [], None, IfSome, OnOk, drop, length, slice_index_or, vec_capacity};
+ghost use Rattle.std.specs.Prelude.{◌≡◌, ◌≤◌, ◌<◌, ◌+◌, ◌∷◌, ◌++◌, ℕ, List, [], None, IfSome, OnOk, drop, length, max, slice_index_or, vec_capacity};
 ghost use Rattle.net_device.specs.Receive.{received};
 ghost use Rattle.guest_machine.specs.Flags.{KeepsFlags};
 ghost use Rattle.guest_machine.specs.Limits.{stepping_frames};
 ghost use Rattle.guest_machine.specs.Runs.{HaveRoom, after_steps, marked_in, sent_in};
 ghost use Rattle.guest_machine.specs.Step.{arrived};
-ghost use Rattle.full_text.specs.Full.{AreIn, IsMadeTo, part_of, whole};
-ghost use Rattle.full_text.specs.MachineTexts.{IsKept, most_texts, settled_at};
+ghost use Rattle.full_text.specs.Full.{AreIn, IsMadeTo, most_record, part_of, whole};
+ghost use Rattle.full_text.specs.MachineTexts.{IsKept, ahead, made_bytes, most_texts, settled_at};
 ghost use Rattle.full_text.specs.internal.TextFields.{FullFits, full_count, texts_of};
 
 use crate::rows::{part_of, put_last};
@@ -166,11 +166,13 @@ impl MachineTexts {
         self.texts.clear();
     }
 
-    /// Makes more of the full text, if one is made in part: up to `count` bytes from place `from` on at least, or all of it. It takes no memory.
+    /// Makes more of the full text, if one is made in part: up to `count` bytes from place `from` on at least, or all of it. It makes a mebibyte
+    /// more or so far, whichever is further, and less than a page's record beside. It takes no memory.
     pub fn make(&mut self, from: u64, count: u64)
         ensures machine { self.new.machine ≡ self.old.machine }
         ensures texts { self.new.texts ≡ self.old.texts }
         ensures made { IfSome self.new.full (IsMadeTo (from + count)) }
+        ensures no_further { made_bytes self.new.full < max (made_bytes self.old.full + ahead) (from + count) + most_record }
     {
         make_ahead(&self.machine, &mut self.full);
         make_to(&self.machine, &mut self.full, from, count);
@@ -229,6 +231,7 @@ fn make_ahead(machine: &Machine, full: &mut Option<FullText>)
     requires { FullFits machine.now full.old }
     ensures fits { FullFits machine.now full.new }
     ensures same { (texts : List (List ℕ)) → texts_of machine.now.settled full.new texts ≡ texts_of machine.now.settled full.old texts }
+    ensures no_further { made_bytes full.new < made_bytes full.old + ahead + most_record }
 {
     let _shape = machine.shape();
     match full {
@@ -246,6 +249,7 @@ fn make_to(machine: &Machine, full: &mut Option<FullText>, from: u64, count: u64
     ensures fits { FullFits machine.now full.new }
     ensures same { (texts : List (List ℕ)) → texts_of machine.now.settled full.new texts ≡ texts_of machine.now.settled full.old texts }
     ensures made { IfSome full.new (IsMadeTo (from + count)) }
+    ensures no_further { made_bytes full.old < made_bytes full.new → made_bytes full.new < from + count + most_record }
 {
     let _shape = machine.shape();
     match full {

@@ -5,7 +5,7 @@ ghost use Rattle.epoch_snapshot.specs.Blocks.{block_in, set_blocks};
 ghost use Rattle.checkpoint_stream.specs.HeadTable.{bytes_of};
 ghost use Rattle.checkpoint_stream.specs.Text.{joined};
 ghost use Rattle.checkpoint_stream.specs.declared.rules.Width.TheVariants.{Four, Eight};
-ghost use Rattle.full_text.specs.Full.{AreIn, IsSameIn, page_at, page_record, page_records, record_size, records_size};
+ghost use Rattle.full_text.specs.Full.{AreIn, IsSameIn, most_record, page_at, page_record, page_records, record_size, records_size};
 
 use crate::kept::KeptPages;
 use checkpoint_stream::texts_are_their_parts;
@@ -13,6 +13,9 @@ use epoch_snapshot::{BLOCK_BYTES, PageChange, masks_name_blocks};
 use guest_machine::Machine;
 use memory_wanted::{MemoryWanted, extend_from_slice};
 use page_lanes::Page;
+
+/// The bytes of a count.
+pub(crate) const COUNT_BYTES: usize = 4;
 
 /// Puts bytes at the end of a text that has room for them.
 pub(crate) fn put(text: &mut Vec<u8>, bytes: &[u8])
@@ -89,6 +92,7 @@ fn put_record(text: &mut Vec<u8>, bytes: &Page, change: PageChange)
     requires { length text.old.items + record_size change ≤ vec_capacity text.old }
     ensures items { text.new.items ≡ text.old.items ++ page_record bytes.now change }
     ensures size { length text.new.items ≡ length text.old.items + record_size change }
+    ensures most { record_size change ≤ most_record }
     ensures room { vec_capacity text.old ≤ vec_capacity text.new }
 {
     put_four(text, change.page);
@@ -126,6 +130,7 @@ pub(crate) fn put_records(
         ≡ text.old.items ++ page_records (page_at machine.now.settled kept.now) pages.now }
     ensures size { length text.new.items + records_size (drop result pages.now) ≡ length text.old.items + records_size pages.now }
     ensures made { result < length pages.now → from + count ≤ length text.new.items }
+    ensures no_further { length text.old.items < length text.new.items → length text.new.items < from + count + most_record }
     ensures room { vec_capacity text.old ≤ vec_capacity text.new }
 {
     let mut next = 0;

@@ -35,7 +35,7 @@ fn rest_of(text: &[u8], from: u64) -> &[u8]
 
 /// The first `count` bytes, or as many as there are.
 #[tactic(auto, using(std::proofs::lemmas::List::take_all))]
-fn front_of(text: &[u8], count: u64) -> &[u8]
+pub(crate) fn front_of(text: &[u8], count: u64) -> &[u8]
     ensures { result.now ≡ take count text.now }
 {
     if count < text.len() as u64 {

@@ -1,34 +1,29 @@
 //! The text of a full checkpoint, of which a part is made.
-ghost use Rattle.std.specs.Prelude.{◌≡◌, ◌≤◌, ◌<◌, ◌*◌, ◌+◌, ◌^◌, ◌++◌, All, length, IfOk, OnOk};
-ghost use Rattle.epoch_snapshot.specs.Cuts.{changed_sectors};
+ghost use Rattle.std.specs.Prelude.{◌≡◌, ◌≤◌, ◌<◌, ◌*◌, ◌+◌, ◌^◌, length, IfOk, OnOk};
 ghost use Rattle.checkpoint_stream.specs.Bounds.{most_text};
-ghost use Rattle.checkpoint_stream.specs.HeadTable.{bytes_of, head_table};
-ghost use Rattle.checkpoint_stream.specs.Text.{head_numbers, joined, number_units, sector_units};
+ghost use Rattle.checkpoint_stream.specs.HeadTable.{head_table};
+ghost use Rattle.checkpoint_stream.specs.Text.{head_numbers, joined, number_units};
 ghost use Rattle.checkpoint_stream.specs.Widths.{HasWidths};
-ghost use Rattle.checkpoint_stream.specs.declared.rules.Width.TheVariants.{Four};
-ghost use Rattle.guest_machine.specs.Guest.{sector_count};
-ghost use Rattle.full_text.specs.Full.{AreIn, IsFullText, IsMadeTo, blank, record_size, records_size, size, whole};
+ghost use Rattle.full_text.specs.Full.{AreIn, IsFullText, IsMadeTo, blank, most_record, record_size, records_size, size, whole};
 ghost use Rattle.full_text.specs.MachineTexts.{IsKept};
 
 use crate::found::{used_pages, used_sectors};
 use crate::kept::KeptPages;
-use crate::records::{keep_pages, put, put_four, put_records};
-use checkpoint_stream::{StreamError, encode, text_is_read_back, texts_are_their_parts};
+use crate::records::{COUNT_BYTES, keep_pages, put, put_four, put_records};
+use crate::tail::Tail;
+use checkpoint_stream::{encode, text_is_read_back, texts_are_their_parts};
 use epoch_snapshot::{
     BLOCK_BYTES, Checkpoint, PageChange, full_cuts_are_whole, masks_name_blocks,
     pages_are_their_blocks,
 };
 use frame_list::FrameList;
-use guest_machine::{Machine, SECTOR_BYTES, Shape};
+use guest_machine::{Machine, Shape};
 use memory_wanted::{MemoryWanted, with_capacity};
 use std::alloc::Global;
 use std::marker::Model;
 
 /// The form in which checkpoints are written.
 const VERSION: u32 = 2;
-
-/// The bytes of a count.
-const COUNT_BYTES: usize = 4;
 
 /// The bytes of a page's record beside its blocks.
 const RECORD_BYTES: usize = 12;
@@ -42,7 +37,7 @@ pub struct FullText {
     pages: Vec<PageChange>,
     next: usize,
     kept: KeptPages,
-    tail: Vec<u8>,
+    tail: Tail,
 }
 
 impl Model for FullText {
@@ -78,7 +73,7 @@ impl FullText {
         used_pages(machine, shape.pages, &mut pages)?;
         used_sectors(machine, shape.sectors, &mut used)?;
         let head = head_of(alloc, machine, shape, generation)?;
-        let tail = tail_of(alloc, machine, used.as_slice())?;
+        let tail = Tail::of_sectors(alloc, machine, used.as_slice())?;
         let room = head.len() + COUNT_BYTES + size_of_records(pages.as_slice()) + tail.len();
         let mut made = with_capacity(alloc, room)?;
         put(&mut made, head.as_slice());
@@ -110,13 +105,15 @@ impl FullText {
         self.made.as_slice()
     }
 
-    /// Makes the text up to `count` bytes from place `from` on at least, or all of it, of what is kept, and of the memory that this machine, whose
-    /// text it is, had at its last settle. It takes no memory beside what was reserved.
+    /// Makes the text up to `count` bytes from place `from` on, or all of it, of what is kept, and of the memory that this machine, whose text it
+    /// is, had at its last settle. Since a page's record is made whole, it may make less than such a record more. It takes no memory beside
+    /// what was reserved.
     pub fn make_to(&mut self, machine: &Machine, from: u64, count: u64)
         requires { AreIn (length machine.now.guest.ram) self.old.pages }
         ensures same { whole machine.now.settled self.new ≡ whole machine.now.settled self.old }
         ensures size { size self.new ≡ size self.old }
         ensures made { IsMadeTo (from + count) self.new }
+        ensures no_further { length self.old.made < length self.new.made → length self.new.made < from + count + most_record }
         ensures pages { AreIn (length machine.now.guest.ram) self.new.pages }
     {
         self.next += put_records(
@@ -128,8 +125,7 @@ impl FullText {
             count,
         );
         if self.next >= self.pages.len() {
-            put(&mut self.made, self.tail.as_slice());
-            self.tail.clear();
+            self.tail.put_to(&mut self.made, from, count);
         }
     }
 
@@ -158,7 +154,7 @@ impl FullText {
 /// How many bytes the record of a page has.
 fn size_of_record(page: PageChange) -> usize
     ensures value { result ≡ record_size page }
-    ensures most { result ≤ 4108 }
+    ensures most { result ≤ most_record }
 {
     RECORD_BYTES + BLOCK_BYTES * page.mask.count_ones() as usize
 }
@@ -167,7 +163,7 @@ fn size_of_record(page: PageChange) -> usize
 fn size_of_records(pages: &[PageChange]) -> usize
     requires { length pages.now < 2 ^ 32 }
     ensures value { result ≡ records_size pages.now }
-    ensures most { result ≤ 4108 * length pages.now }
+    ensures most { result ≤ most_record * length pages.now }
 {
     let mut size = 0;
     for page in pages {
@@ -202,34 +198,9 @@ fn head_of(
     );
     let encoded = encode(alloc, &checkpoint);
     drop(checkpoint);
-    let mut text = match encoded {
-        Ok(text) => text,
-        Err(StreamError::NoMemory(wanted)) => return Err(wanted),
-        Err(StreamError::Malformed(_)) => unreachable!(),
-    };
+    let mut text = encoded?;
     texts_are_their_parts();
     let head = text.len() - 3 * COUNT_BYTES;
     text.truncate(head);
     Ok(text)
-}
-
-/// What stands behind the page records of a full checkpoint's text: the count of these sectors, their records, and the count of no frames.
-fn tail_of(alloc: Global, machine: &Machine, used: &[u32]) -> Result<Vec<u8>, MemoryWanted>
-    requires few { length used.now < 2 ^ 32 }
-    requires sectors { All (λ s. s < sector_count machine.now.guest.sectors) used.now }
-    ensures size { IfOk result (λ tail. length tail.items ≡ 8 + 516 * length used.now) }
-    ensures tail { IfOk result (λ tail. tail.items
-        ≡ (bytes_of Four (length used.now) ++ joined (sector_units (changed_sectors machine.now.guest.sectors used.now))) ++ bytes_of Four 0) }
-{
-    let mut tail = with_capacity(
-        alloc,
-        2 * COUNT_BYTES + (COUNT_BYTES + SECTOR_BYTES) * used.len(),
-    )?;
-    put_four(&mut tail, used.len() as u32);
-    for sector in used {
-        put_four(&mut tail, *sector);
-        put(&mut tail, machine.sector(*sector));
-    }
-    put_four(&mut tail, 0);
-    Ok(tail)
 }

@@ -25,7 +25,7 @@ ghost use Rattle.hypervisor.specs.Submits.{Submits, BeginsEpoch};
 
 use crate::seats::keep_seat;
 use crate::shared::Shared;
-use epoch_snapshot::{Checkpoint, SnapshotError, cut_delta, cut_full};
+use epoch_snapshot::{Checkpoint, cut_delta, cut_full};
 use frame_ports::NUMBER_LIMIT;
 use growing_history::{Clock, Pair, RunnerSeat, steps_go_on, unmarked_histories_are_legal};
 use guest_machine::{
@@ -344,10 +344,7 @@ fn delta(
     requires last_number { number < number_limit }
     ensures { IfOk result (λ p. CarriesDelta machine.now generation number p) }
 {
-    let checkpoint = match cut_delta(alloc, machine, generation, number) {
-        Ok(checkpoint) => checkpoint,
-        Err(SnapshotError::NoMemory(wanted)) => return Err(wanted),
-    };
+    let checkpoint = cut_delta(alloc, machine, generation, number)?;
     let packet = packet_of(alloc, checkpoint)?;
     Ok(packet)
 }
@@ -358,10 +355,7 @@ fn full(alloc: Global, machine: &Machine, generation: u64) -> Result<TextPacket,
     requires last_generation { generation < number_limit }
     ensures { IfOk result (λ p. CarriesFull machine.now generation p) }
 {
-    let checkpoint = match cut_full(alloc, machine, generation) {
-        Ok(checkpoint) => checkpoint,
-        Err(SnapshotError::NoMemory(wanted)) => return Err(wanted),
-    };
+    let checkpoint = cut_full(alloc, machine, generation)?;
     let packet = packet_of(alloc, checkpoint)?;
     Ok(packet)
 }

@@ -6,7 +6,7 @@ ghost use Rattle.pair_book.specs.Packets.{IsTextOf};
 ghost use Rattle.pair_book.specs.internal.SharedBytes.{bytes_of};
 
 use crate::shared_bytes::SharedBytes;
-use checkpoint_stream::{StreamError, encode};
+use checkpoint_stream::encode;
 use epoch_snapshot::Checkpoint;
 use memory_wanted::{MemoryWanted, from_slice};
 use std::alloc::Global;
@@ -48,11 +48,7 @@ impl TextPacket {
         ensures text { IfOk result (λ p. p.text ≡ text checkpoint.now) }
         ensures read { IfOk result (λ p. ReadsBack checkpoint.now p.text) }
     {
-        let text = match encode(alloc, checkpoint) {
-            Ok(text) => text,
-            Err(StreamError::NoMemory(wanted)) => return Err(wanted),
-            Err(StreamError::Malformed(_)) => unreachable!(),
-        };
+        let text = encode(alloc, checkpoint)?;
         Ok(TextPacket {
             alloc,
             generation: checkpoint.generation(),

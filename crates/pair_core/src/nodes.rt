@@ -11,7 +11,6 @@ ghost use Rattle.guest_machine.specs.Limits.{page_bytes};
 ghost use Rattle.guest_machine.specs.Step.{arrived};
 ghost use Rattle.guest_machine.specs.Runs.{HaveRoom, sent_in};
 ghost use Rattle.epoch_snapshot.specs.Bases.{IsBase};
-ghost use Rattle.checkpoint_stream.specs.ReadBack.{ReadsBack};
 ghost use Rattle.checkpoint_stream.specs.Readings.{begun, fed};
 ghost use Rattle.checkpoint_stream.specs.declared.place.Place.TheVariants.{Whole};
 ghost use Rattle.pair_core.specs.Nodes.{HasShape, machine_of, start_nodes, after_run, with_arrival, with_sealed, with_commit};
@@ -22,7 +21,7 @@ ghost use Rattle.backup_image.specs.Images.{empty_image};
 
 use backup_image::{Image, ImageError, KeptFrames, Resumed};
 use checkpoint_stream::{Reader, StreamError, encode};
-use epoch_snapshot::{Checkpoint, SnapshotError, cut_delta, cut_full};
+use epoch_snapshot::{Checkpoint, cut_delta, cut_full};
 use guest_machine::{Machine, MachineError, SECTOR_BYTES, Shape, sent_frames};
 use memory_wanted::{MemoryWanted, reserve};
 use pair_history::Frame;
@@ -203,11 +202,8 @@ impl Nodes {
             → IsText self.old.nodes.image.shape generation number base self.old.nodes.live.guest self.old.nodes.live.outbox text.items) }
     {
         reserve(&mut self.sealed, 1)?;
-        let checkpoint = match cut_delta(self.alloc, &self.live, generation, number) {
-            Ok(checkpoint) => checkpoint,
-            Err(SnapshotError::NoMemory(wanted)) => return Err(wanted),
-        };
-        text_of(self.alloc, &checkpoint)
+        let checkpoint = cut_delta(self.alloc, &self.live, generation, number)?;
+        encode(self.alloc, &checkpoint)
     }
 
     /// The checkpoint's text is sealed, and the live machine is settled.
@@ -237,18 +233,10 @@ impl Nodes {
             → IsText self.old.nodes.image.shape generation 0 before self.old.nodes.live.guest [] made.1.items) }
     {
         reserve(&mut self.sealed, 1)?;
-        let checkpoint = match cut_full(self.alloc, &self.live, generation) {
-            Ok(checkpoint) => checkpoint,
-            Err(SnapshotError::NoMemory(wanted)) => return Err(wanted),
-        };
-        let text = match text_of(self.alloc, &checkpoint) {
-            Ok(text) => text,
-            Err(wanted) => {
-                drop(checkpoint);
-                return Err(wanted);
-            }
-        };
+        let checkpoint = cut_full(self.alloc, &self.live, generation)?;
+        let encoded = encode(self.alloc, &checkpoint);
         drop(checkpoint);
+        let text = encoded?;
         let image = match Image::empty(self.alloc, self.shape) {
             Ok(image) => image,
             Err(ImageError::NoMemory(wanted)) => return Err(wanted),
@@ -330,18 +318,6 @@ impl Nodes {
         drop(std::mem::replace(&mut self.retired, Some(stopped)));
         drop(kept);
         self.sealed.clear();
-    }
-}
-
-/// The text of a checkpoint.
-fn text_of(alloc: Global, checkpoint: &Checkpoint) -> Result<Vec<u8>, MemoryWanted>
-    requires { checkpoint.now.version ≡ 2 }
-    ensures { IfOk result (λ text. ReadsBack checkpoint.now text.items) }
-{
-    match encode(alloc, checkpoint) {
-        Ok(text) => Ok(text),
-        Err(StreamError::NoMemory(wanted)) => Err(wanted),
-        Err(StreamError::Malformed(_)) => unreachable!(),
     }
 }
 

@@ -4,7 +4,7 @@ use Rattle.full_text.specs.Full.{Making, size}
 use Rattle.full_text.specs.declared.text.FullText.TheInside.{Inside}
 
 abbrev pub making : Inside → Making
-making a = record { made = a.made.items; pages = drop a.next a.pages.items; kept = a.kept; tail = a.tail.items }
+making a = record { made = a.made.items; pages = drop a.next a.pages.items; kept = a.kept; tail = a.tail }
 
 -- what is still to come has room, and there are no more pages than a machine has
 pub record IsMaking (a : Inside) : Type 0 where

@@ -11,8 +11,9 @@ ghost use Rattle.std.specs.Borrow.{sem};
 ghost use Rattle.pair_nodes.specs.Lending.{IsAsItWas};
 
 use super::{LAST_FRAME, PrimaryNode, few_frames};
-use crate::texts::{MOST_PENDING, text_of};
-use epoch_snapshot::{SnapshotError, cut_delta};
+use crate::texts::MOST_PENDING;
+use checkpoint_stream::encode;
+use epoch_snapshot::cut_delta;
 use memory_wanted::MemoryWanted;
 use pair_core::Refusal;
 
@@ -81,11 +82,8 @@ impl PrimaryNode {
         ensures short { IfOk result (λ text. length text.items ≤ most_text self.now.primary.shape) }
     {
         let generation = self.generation.number();
-        let checkpoint = match cut_delta(self.alloc, self.kept.machine(), generation, self.to_cut) {
-            Ok(checkpoint) => checkpoint,
-            Err(SnapshotError::NoMemory(wanted)) => return Err(wanted),
-        };
-        let text = text_of(self.alloc, &checkpoint);
+        let checkpoint = cut_delta(self.alloc, self.kept.machine(), generation, self.to_cut)?;
+        let text = encode(self.alloc, &checkpoint);
         drop(checkpoint);
         text
     }

@@ -22,5 +22,4 @@ returns c =
       widths = widths;
       short = subst (λ (l : List ℕ). length l ≤ most_text c.args.checkpoint.now.shape) (sym spelled)
           (text_size c.args.checkpoint.now c.requires c.pages-pages.ensures.canonical widths);
-      err = tt;
     }

@@ -2,6 +2,7 @@
 use Rattle.std.proofs.Common.{ℕ, List, length, map, ap, arith, length-append}
 use Rattle.epoch_snapshot.specs.Blocks.{block_in, set_blocks}
 use Rattle.checkpoint_stream.specs.Text.{joined}
+use Rattle.std.proofs.lemmas.Nat.{ones-le}
 use Rattle.full_text.proofs.KeptLemmas.{record-put}
 use Rattle.full_text.proofs.RecordLemmas.{blocks-length}
 use Rattle.full_text.proofs.records.put_record.Goals as goal
@@ -21,3 +22,6 @@ returns-clause-size c =
       c.put_four.ensures.size,
       c.put_eight.ensures.size,
     )
+
+pub returns-clause-most : goal.returns-clause-most
+returns-clause-most c = omega (arith, ones-le 64 c.args.change.mask (omega arith))

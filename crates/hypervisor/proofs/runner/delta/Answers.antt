@@ -3,5 +3,5 @@ use Rattle.hypervisor.proofs.runner.delta.Goals as goal
 
 pub returns : goal.returns
 returns c =
-    delta_carried _ _ _ _ _ c.in-Ok.ensures.parts c.in-Ok.ensures.image c.in_ok-packet.ensures.generation c.in_ok-packet.ensures.number
+    delta_carried _ _ _ _ _ c.in_ok-checkpoint.ensures.parts c.in_ok-checkpoint.ensures.image c.in_ok-packet.ensures.generation c.in_ok-packet.ensures.number
     c.in_ok-packet.ensures.text c.in_ok-packet.ensures.read

@@ -25,7 +25,7 @@ pub returns-clause-kept : goal.returns-clause-kept
 returns-clause-kept c =
     let a = c.self.inside in
     let m = c.args.machine.now in
-    let f : Making = record { made = a.made.items; pages = drop a.next a.pages.items; kept = c.keep_pages.new.kept; tail = a.tail.items } in
+    let f : Making = record { made = a.made.items; pages = drop a.next a.pages.items; kept = c.keep_pages.new.kept; tail = a.tail } in
     let slice : List PageChange = take (length c.deref.result.now - a.next) (drop a.next c.deref.result.now) in
     let is : slice ≡ f.pages =
     take_all (length c.deref.result.now - a.next) (drop a.next c.deref.result.now) (omega (arith, length-drop a.next c.deref.result.now))

@@ -23,8 +23,8 @@ canonical : (m : State) (shape : Shape) (g : ℕ) → length m.guest.ram ≡ 409
 canonical m shape g pages sectors law first last is rules =
     law m g (full_change shape m g) (full-cut shape m g pages sectors) first last (subst IsMachineState is rules)
 
-pub tail_of-requires-clause-sectors : goal.tail_of-requires-clause-sectors
-tail_of-requires-clause-sectors c =
+pub of_sectors-requires-clause-sectors : goal.of_sectors-requires-clause-sectors
+of_sectors-requires-clause-sectors c =
     let disk = c.args.machine.now.guest.sectors in
     let n = c.shape-shape.result.sectors in
     let count : n ≡ sector_count disk = omega (arith, c.shape-shape.ensures.sectors) in
@@ -62,7 +62,7 @@ returns-clause-text c =
     let m = c.args.machine.now in
     let shape = c.shape-shape.result in
     let g = c.args.generation in
-    let f : Making = record { made = c.put_four.new.text.items; pages = c.used_pages.new.pages.items; kept = c.new.result; tail = c.in_ok-tail.tail.items } in
+    let f : Making = record { made = c.put_four.new.text.items; pages = c.used_pages.new.pages.items; kept = c.new.result; tail = c.in_ok-tail.tail } in
     let all : with_state m.guest (state_of m.guest) ≡ m.guest =
     ap (with_state m.guest) (sym c.state-state.ensures.value) ∙ c.state-state.ensures.whole in
     let checkpoint = full_change shape m g in
@@ -99,7 +99,7 @@ returns-clause-size c =
     canonical m shape g c.shape-shape.ensures.pages c.shape-shape.ensures.sectors c.full_cuts_are_whole.ensures.canonical c.requires.first
     c.requires.last c.state-state.ensures.value c.state-state.ensures.rules in
     full-size c.masks_name_blocks.ensures.all c.pages_are_their_blocks.ensures.own shape m g
-    (record { made = c.put_four.new.text.items; pages = c.used_pages.new.pages.items; kept = c.new.result; tail = c.in_ok-tail.tail.items })
+    (record { made = c.put_four.new.text.items; pages = c.used_pages.new.pages.items; kept = c.new.result; tail = c.in_ok-tail.tail })
     c.new.ensures c.in_ok-used_pages.ensures.pages (c.full_cuts_are_whole.ensures.masks m g (full_change shape m g) cut)
     (found-in m shape g c.used_pages.new.pages.items c.shape-shape.ensures.pages rules c.in_ok-used_pages.ensures.pages)
 

@@ -7,7 +7,7 @@ invariant_of-result c =
     let change = c.args.checkpoint.now in
     record {
       change = change;
-      reads_back = subst (ReadsBack change) (sym c.shared.ensures) c.in-Ok.ensures.read;
+      reads_back = subst (ReadsBack change) (sym c.shared.ensures) c.in_ok-text.ensures.read;
       of_version = c.requires;
       of_generation = sym c.generation.ensures.value;
       of_number = sym c.number.ensures.value;

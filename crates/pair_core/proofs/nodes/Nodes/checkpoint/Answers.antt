@@ -9,11 +9,11 @@ returns-clause-text c =
     let m = c.self.inside.live in
     let shape = (image_or c.self.inside.shape c.self.inside.image).shape in
     let generation = c.args.generation in
-    IfOk-weaker c.text_of.result _ _
+    IfOk-weaker c.encode.result _ _
     (λ text reads. rw (← c.self.view_is) (λ base is sized.
     subst (λ (n : ℕ). IsText shape generation n base m.guest m.outbox text.items) (omega arith)
-    (delta-text m.settled m.dirty m.outbox m generation _ c.in-Ok.checkpoint shape text.items base c.in-Ok.ensures.parts
-    reads (c.in-Ok.ensures.image base (base-of m base is)) sized))) c.text_of.ensures
+    (delta-text m.settled m.dirty m.outbox m generation _ c.in_ok-checkpoint.checkpoint shape text.items base c.in_ok-checkpoint.ensures.parts
+    reads (c.in_ok-checkpoint.ensures.image base (base-of m base is)) sized))) c.encode.ensures.read
 
 pub returns-clause-room : goal.returns-clause-room
-returns-clause-room c = on_ok c.text_of.result _ (search (arith, rules))
+returns-clause-room c = on_ok c.encode.result _ (search (arith, rules))

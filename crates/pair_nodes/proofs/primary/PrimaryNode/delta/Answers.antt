@@ -19,9 +19,9 @@ pub returns-clause-text : goal.returns-clause-text
 returns-clause-text c =
     let m = c.machine.result.now in
     let shape = c.self.inside.shape in
-    IfOk-weaker c.text_of-text.result _ _
+    IfOk-weaker c.encode-text.result _ _
     (λ text reads. rw (← ap (λ (p : Flagged). p.primary) c.self.view_is)
     (subst (IsOf shape c.self.inside.generation.number c.self.inside.to_cut text.items) c.machine.ensures (λ base is sized.
     subst (λ n. IsText shape n c.self.inside.to_cut base m.guest m.outbox text.items) c.number-generation.ensures.number
-    (delta-text m.settled m.dirty m.outbox m c.number-generation.result c.self.inside.to_cut c.in-Ok.checkpoint shape text.items base
-    c.in-Ok.ensures.parts reads (c.in-Ok.ensures.image base (base-of m base is)) sized)))) c.text_of-text.ensures.read
+    (delta-text m.settled m.dirty m.outbox m c.number-generation.result c.self.inside.to_cut c.in_ok-checkpoint.checkpoint shape text.items base
+    c.in_ok-checkpoint.ensures.parts reads (c.in_ok-checkpoint.ensures.image base (base-of m base is)) sized)))) c.encode-text.ensures.read
