@@ -317,7 +317,7 @@ class Live:
         self.ran_at = now
         self.protect(now)
         self.session, self.standby = session, standby
-        self.pacer.begin(now)
+        self.pacer.begin(self.link.now())
 
     def resume(self, committed, now):
         """The standby's connection is a new one, and it has committed so much."""

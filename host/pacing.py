@@ -4,7 +4,8 @@ fetched; one that has written its part waits for the next part. A guest that wri
 
 No pace by pages helps where a burst comes: a guest's disk may write nearly all its memory within one step, and a guest that isn't paced,
 since the link takes nothing, as much. The filling is then begun again, since the next full checkpoint has what was written; and each time
-the guest runs slower meanwhile, so that one whose disk does so over and over is filled between two of its bursts."""
+the guest runs slower meanwhile, so that one whose disk does so over and over is filled between two of its bursts. That isn't done for long,
+since over a slow link a filling takes longer than a guest may be slow."""
 from host.node import WRITTEN
 
 AT_ONCE = 256  # pages that it may write before any of the text is fetched
@@ -19,7 +20,7 @@ STALLED = 0.05  # seconds without a part of the text that the link took
 BURST = BUDGET + MOST // STEPS_A_PAGE  # pages: above the budget by as many as its own stores write with so many steps at once
 MOST_AGAIN = 3  # times that a filling is begun again: then it goes on, so that each guest is protected in the end
 SLOWER = 8  # times as slow each time
-SOON = 10  # seconds: a standby that comes later is another filling, begun for the first time
+MOST_LEFT_OUT = 2.0  # seconds in all, of the time of a guest that runs slower: then it runs as ever
 
 
 class Pace:
@@ -54,15 +55,13 @@ class Pacer:
         self.live, self.pace = live, None
         self.is_counted = True  # whether what the pace knows to be written is all
         self.sent_at = self.tried_at = 0.0  # when a part of a text was sent, and the guest was to make steps
-        self.again, self.again_at = 0, 0.0  # how often the filling was begun again, and when
+        self.again, self.left_out = 0, 0.0  # how often the filling was begun again, and the seconds left out since it is slower
 
     def begin(self, now):
         self.pace, self.is_counted, self.sent_at, self.tried_at = Pace(), True, now, now
-        if now - self.again_at > SOON:
-            self.again = 0
 
     def end(self):
-        self.pace, self.again = None, 0
+        self.pace, self.again, self.left_out = None, 0, 0.0
 
     def was_cut(self):
         if self.pace is not None:
@@ -105,10 +104,14 @@ class Pacer:
             self.leave_out(left)
 
     def slowed(self, due):
-        """Of the steps that are due those that it is given, slower each time that the filling was begun again. The time of the others is
+        """Of the steps that are due those that it is given, fewer each time that the filling was begun again. The time of the others is
         left out."""
+        if self.left_out >= MOST_LEFT_OUT:
+            return due
         given = max(due // SLOWER ** self.again, min(due, 1))
-        self.leave_out((due - given) / self.live.rate)
+        seconds = (due - given) / self.live.rate
+        self.left_out += seconds
+        self.leave_out(seconds)
         return given
 
     def leave_out(self, seconds):
@@ -117,12 +120,12 @@ class Pacer:
 
     def burst(self, pages, how, now):
         """Begins the filling again, or, where that was done often enough or all of the text is fetched, lets it and the guest go on."""
-        log, standby, again = self.live.log, self.live.standby[0], self.again
+        log, standby, again, left_out = self.live.log, self.live.standby[0], self.again, self.left_out
         told = f"{pages} pages of the guest's memory were written {how}, and {standby} isn't filled yet"
         if again < MOST_AGAIN and not self.live.is_fetched:
             log.info(f"{told}: it is filled anew, {again + 1} of {MOST_AGAIN} times, so that the guest doesn't stand for them at a cut")
             self.live.begin_again(now)
-            self.again, self.again_at = again + 1, now
+            self.again, self.left_out = again + 1, left_out
         else:
             log.warning(f"{told}: it was filled anew {again} times, and now the guest stands for them at the next cut")
             self.pace = None
