@@ -12,6 +12,7 @@ ghost use Rattle.script_player.specs.Session.{IsAnswered};
 
 use crate::printing::{refuse, tell, tell_number};
 use crate::role::Role;
+use guest_machine::SECTOR_BYTES;
 use memory_wanted::{MemoryWanted, resize, with_capacity};
 use pair_core::{Refusal, Shape};
 use pair_nodes::{PrimaryNode, StandbyNode};
@@ -21,7 +22,7 @@ use script_player::streams::{Failed, Sink};
 use std::alloc::Global;
 
 /// The bytes of a sector's record in a checkpoint: its number, and what it holds.
-const SECTOR_RECORD: usize = 4 + 512;
+const SECTOR_RECORD: usize = 4 + SECTOR_BYTES;
 
 /// The bytes that lists of pages take for each of them, while they grow.
 const PAGE_LISTS: usize = 64;
@@ -66,8 +67,8 @@ fn boot_guest(alloc: Global, line: &Boot) -> Result<PrimaryNode, MemoryWanted>
     PrimaryNode::boot(alloc, shape, image.as_slice())
 }
 
-/// Takes as much memory as `protect` fills, most of it with the disk's part of the full checkpoint, fills it, and gives it back. Where the C
-/// library keeps it, the guest, which stands in `protect`, needn't wait for the system to give out each page of it.
+/// Takes as much memory as `protect` fills, most of it with the disk's part of the full checkpoint, fills it, and gives it back. Where the
+/// C library keeps it, the guest, which stands in `protect`, needn't wait for the system to give out each page of it.
 fn warm(alloc: Global, line: &Boot) {
     let bytes = SECTOR_RECORD * line.sectors as usize + PAGE_LISTS * line.pages as usize;
     if let Ok(mut room) = with_capacity(alloc, bytes) {

@@ -34,8 +34,8 @@ fn main(rt: HostRuntime) -> ExitCode {
     }
 }
 
-/// Has the C library keep what is given back to it and give it out again, where it would go back to the system, which takes longer to give
-/// a page out than an epoch takes for it. glibc does so for blocks up to the size of the largest that was given back (mallopt(3),
+/// Has the C library keep what is given back to it and give it out again. It would go back to the system, which takes longer to give out a
+/// page than an epoch takes to fill it. glibc keeps blocks up to the size of the largest that was given back (mallopt(3),
 /// `M_MMAP_THRESHOLD`), so one is taken and given back. Nothing is written to it, so it costs no memory.
 fn keep_freed(alloc: Global) {
     let _block = Vec::<u8>::with_capacity(alloc, LARGEST_KEPT);
