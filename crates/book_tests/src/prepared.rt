@@ -61,7 +61,8 @@ impl SettledMachine {
         requires numbers { (1 ≤ number) × (number < 2 ^ 62) }
         ensures { IfOk result (Repeats self.now) }
     {
-        cut_delta(alloc, &*self.machine, generation, number)
+        let checkpoint = cut_delta(alloc, &*self.machine, generation, number)?;
+        Ok(checkpoint)
     }
 
     /// Its full checkpoint of this generation.
@@ -69,7 +70,8 @@ impl SettledMachine {
         requires generations { (1 ≤ generation) × (generation < 2 ^ 62) }
         ensures { IfOk result (Repeats self.now) }
     {
-        cut_full(alloc, &*self.machine, generation)
+        let checkpoint = cut_full(alloc, &*self.machine, generation)?;
+        Ok(checkpoint)
     }
 
     /// Its checkpoint of this generation and number: under number 0 the full one.
