@@ -16,7 +16,7 @@ if [ ! -x "$program" ] || [ -n "$(find "$root"/crates/*/src "$here" -newer "$pro
     cp "$here/back_up.answers" "$build/crates/epochs/proofs/back_up/Answers.antt"
     {
         cat "$root/crates.txt"
-        echo 'epochs: backup_image checkpoint_stream epoch_snapshot guest_machine'
+        echo 'epochs: backup_image checkpoint_stream epoch_cuts epoch_snapshot guest_machine guest_rules'
     } >"$build/crates.txt"
     # The smallest epoch, to build it.
     if ! (cd "$build/crates/epochs" && rt run -- measure 1 1 1) >"$build/log" 2>&1; then

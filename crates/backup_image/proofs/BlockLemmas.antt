@@ -5,7 +5,7 @@ use Rattle.epoch_snapshot.specs.Blocks.{xored}
 use Rattle.std.proofs.Common.{◌≡◌, ℕ, suc, ◌+◌, ◌-◌, ◌*◌, ◌<◌, ◌≤◌, ◌==◌, cond, List, [], ◌∷◌, length, take, drop, sym, ap, ◌∙◌, arith}
 use Rattle.std.proofs.lemmas.{Bool.{eq-eqb, ne_eqb}, List.{length-take-le, length-drop}}
 use Rattle.std.specs.{Int.bit_at, List.{range_with_len, filter}}
-use Rattle.guest_machine.specs.{Bytes.with_xored, Blocks.block_place}
+use Rattle.guest_rules.specs.{Bytes.with_xored, Blocks.block_place}
 
 -- ---- the blocks that a mask names
 

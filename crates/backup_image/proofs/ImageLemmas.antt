@@ -3,7 +3,7 @@ use Rattle.std.proofs.Common.{◌≡◌, ℕ, ◌+◌, ◌-◌, ◌*◌, ◌^◌
 use Rattle.std.proofs.{Common.{replicate, refl, sym, ap, ◌∙◌, arith, length-append, subst}, lemmas.Bool.{eqb-true, true≢false}}
 use Rattle.std.proofs.lemmas.List.{length-replicate, take-replicate, drop-replicate}
 use Rattle.std.specs.Prelude.{nat_lt, slice_range, Option, Some, None, is_some, Result, Ok, Err}
-use Rattle.guest_machine.specs.{declared.shapes.Shape.Shape, Guest.{Guest, State, boot_guest}}
+use Rattle.guest_rules.specs.{declared.shapes.Shape.Shape, Guest.{Guest, State, boot_guest}}
 use Rattle.epoch_snapshot.specs.{Checkpoints.Change, Images.{base_ram, base_sectors}}
 use Rattle.backup_image.specs.declared.{errors.ImageError.{ImageError, TheVariants.{Stale, Gap}}, standing.Standing.Standing}
 use Rattle.backup_image.specs.{declared.standing.Staged.{Staged, TheVariants.{New, Again}}, Images.{answer_at, settled_machine}}

@@ -2,8 +2,8 @@
 -- first.
 use Rattle.std.proofs.Common.{◌≡◌, ℕ, ◌+◌, ◌*◌, ◌<◌, ◌≤◌, false, List, [], ◌∷◌, ◌++◌, length, replicate, drop, map, get_or, refl, sym, ap}
 use Rattle.std.{proofs.{Common.{◌∙◌, arith, count_ones, length-append}, lemmas.List.{drop_all, length-map}}, specs.Int.bit_at}
-use Rattle.guest_machine.specs.{Guest.{Guest, State}, Bytes.{with_bytes, with_xored}, Blocks.{block_place, with_block, with_sector}}
-use Rattle.guest_machine.specs.{MachineStates.with_state, declared.machine_state.MachineState.MachineState}
+use Rattle.guest_rules.specs.{Guest.{Guest, State}, Bytes.{with_bytes, with_xored}, Blocks.{block_place, with_block, with_sector}}
+use Rattle.guest_rules.specs.{MachineStates.with_state, declared.machine_state.MachineState.MachineState}
 use Rattle.epoch_snapshot.specs.{declared.changes.{PageChange.PageChange, SectorChange.SectorChange}, Blocks.{set_blocks, block_numbers}}
 use Rattle.epoch_snapshot.specs.{Checkpoints.{Change, block_count}, Images.{base_ram, base_sectors, image_of, with_blocks, with_sectors}}
 use Rattle.backup_image.specs.Images.{settled_machine}

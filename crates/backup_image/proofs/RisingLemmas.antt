@@ -1,6 +1,6 @@
 -- Rising numbers.
 use Rattle.std.proofs.Common.{ℕ, zero, suc, ◌+◌, ◌<◌, ◌≤◌, List, [], ◌∷◌, length, map, get_or, arith}
-use Rattle.guest_machine.specs.Dirty.{Rises}
+use Rattle.guest_rules.specs.Dirty.{Rises}
 
 rises-le : (from end : ℕ) (is : List ℕ) → Rises from end is → from ≤ end
 rises-le from end [] h = h

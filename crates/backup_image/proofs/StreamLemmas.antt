@@ -4,7 +4,7 @@ use Rattle.checkpoint_stream.specs.{declared.place.Place.{Place, TheVariants.Who
 use Rattle.checkpoint_stream.specs.{Readings.{is_whole, is_closed}, Sound.change_in, Text.text, Widths.HasWidths, ReadBack.ReadsBack}
 use Rattle.std.proofs.Common.{◌≡◌, ℕ, suc, ◌+◌, ◌<◌, List, [], ◌∷◌, ◌++◌, length, Bool, true, false, refl, sym, ap, subst, ◌∙◌, arith, take}
 use Rattle.std.proofs.{Common.{drop, slice_index_or, append_assoc, length-append}, lemmas.List.append-nil}
-use Rattle.guest_machine.specs.declared.shapes.Shape.{Shape}
+use Rattle.guest_rules.specs.declared.shapes.Shape.{Shape}
 use Rattle.epoch_snapshot.specs.Checkpoints.{Change, IsCanonical}
 use Rattle.backup_image.specs.{Images.ImageState, Streams.{IsOne, renewed, BeginsWith, after_all, Follower, Call, feeds, commits}}
 use Rattle.backup_image.specs.Streams.{after_call, after_calls, committed_next, follower, IsWritten, AreWritten, texts}

@@ -1,8 +1,8 @@
 -- The backup's image: a guest, the checkpoint that it was made by, the one that is to come next, and the frames of the last commits.
 use Rattle.std.specs.Prelude.{ℕ, ◌+◌, ◌==◌, Bool, ◌&&◌, not, if◌then◌else◌, nat_lt, List, [], replicate, false, Option, Some, None, Result}
 use Rattle.std.specs.Prelude.{Ok, Err}
-use Rattle.guest_machine.specs.declared.shapes.Shape.{Shape}
-use Rattle.guest_machine.specs.Guest.{Guest, State, boot_guest}
+use Rattle.guest_rules.specs.declared.shapes.Shape.{Shape}
+use Rattle.guest_rules.specs.Guest.{Guest, State, boot_guest}
 use Rattle.epoch_snapshot.specs.Checkpoints.{Change, is_old_delta}
 use Rattle.epoch_snapshot.specs.Images.{image_of}
 use Rattle.arrayvec.specs.ArrayVec.{ArrayVec}

@@ -1,6 +1,6 @@
 -- A stream of checkpoints that ends anywhere: which whole checkpoints its bytes begin with, and the image that they make.
 use Rattle.std.specs.Prelude.{◌≡◌, ℕ, List, [], ◌∷◌, ◌++◌, false, length, take, if◌then◌else◌}
-use Rattle.guest_machine.specs.declared.shapes.Shape.{Shape}
+use Rattle.guest_rules.specs.declared.shapes.Shape.{Shape}
 use Rattle.epoch_snapshot.specs.Checkpoints.{Change, IsCanonical}
 use Rattle.checkpoint_stream.specs.declared.place.Place.TheVariants.{Whole}
 use Rattle.checkpoint_stream.specs.Readings.{Reading, begun, fed, taken, is_whole}

@@ -1,9 +1,9 @@
 //! What a checkpoint does to a machine, in place.
 ghost use Rattle.std.specs.Prelude.{◌≡◌, ◌+◌, ◌*◌, ◌<◌, ◌≤◌, false, length, replicate, map, count_ones};
-ghost use Rattle.guest_machine.specs.Blocks.{with_sector};
-ghost use Rattle.guest_machine.specs.Dirty.{Rises};
-ghost use Rattle.guest_machine.specs.Guest.{sector_count};
-ghost use Rattle.guest_machine.specs.Limits.{page_bytes};
+ghost use Rattle.guest_rules.specs.Blocks.{with_sector};
+ghost use Rattle.guest_rules.specs.Dirty.{Rises};
+ghost use Rattle.guest_rules.specs.Guest.{sector_count};
+ghost use Rattle.guest_rules.specs.Limits.{page_bytes};
 ghost use Rattle.epoch_snapshot.specs.Blocks.{block_numbers, set_blocks};
 ghost use Rattle.epoch_snapshot.specs.Checkpoints.{block_count};
 ghost use Rattle.epoch_snapshot.specs.Images.{base_ram, base_sectors, image_of, with_blocks, with_sectors};

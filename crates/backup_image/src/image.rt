@@ -2,7 +2,7 @@
 ghost use Rattle.std.specs.Prelude.{◌≡◌, ◌↔◌, ◌+◌, ◌*◌, ◌<◌, ◌≤◌, length, replicate, slice_range, IfOk, IfErr, OnErr, IsErr, Some};
 ghost use Rattle.std.specs.Prelude.{None, Err};
 ghost use Rattle.memory_wanted.specs.Wanted.{wanted};
-ghost use Rattle.guest_machine.specs.Limits.{page_bytes};
+ghost use Rattle.guest_rules.specs.Limits.{page_bytes};
 ghost use Rattle.backup_image.specs.Images.{booted, empty_image, answer_at, stage_answer, after_stage, committed, settled_machine};
 
 use crate::apply::apply;

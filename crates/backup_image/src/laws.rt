@@ -1,7 +1,7 @@
 //! Laws of staging and committing, each the contract of a function that does nothing.
 ghost use Rattle.std.specs.Prelude.{◌≡◌, ◌≢◌, ◌<◌, ◌++◌, ℕ, List, false, length, Some, Ok};
-ghost use Rattle.guest_machine.specs.declared.shapes.Shape.{Shape};
-ghost use Rattle.guest_machine.specs.Guest.{Guest, State};
+ghost use Rattle.guest_rules.specs.declared.shapes.Shape.{Shape};
+ghost use Rattle.guest_rules.specs.Guest.{Guest, State};
 ghost use Rattle.epoch_snapshot.specs.Bases.{IsBase};
 ghost use Rattle.epoch_snapshot.specs.Checkpoints.{Change};
 ghost use Rattle.epoch_snapshot.specs.Images.{image_of};

@@ -5,11 +5,11 @@ use Rattle.std.proofs.Common.{rules, ◌≡◌, ℕ, zero, suc, ◌+◌, ◌*◌
 use Rattle.std.proofs.Common.{◌∙◌, subst, arith, Some}
 use Rattle.std.proofs.lemmas.List.{append-nil}
 use Rattle.std.specs.Prelude.{◌==◌, if◌then◌else◌}
-use Rattle.guest_machine.specs.Dirty.{is_in}
-use Rattle.guest_machine.specs.Guest.{Guest, State, HasDeviceRecords}
-use Rattle.guest_machine.specs.Guest as guest
-use Rattle.guest_machine.specs.Runs.{after_steps, sent_in, marked_in}
-use Rattle.guest_machine.specs.Step.{next, sent}
+use Rattle.guest_rules.specs.Dirty.{is_in}
+use Rattle.guest_rules.specs.Guest.{Guest, State, HasDeviceRecords}
+use Rattle.guest_rules.specs.Guest as guest
+use Rattle.guest_rules.specs.Runs.{after_steps, sent_in, marked_in}
+use Rattle.guest_rules.specs.Step.{next, sent}
 use Rattle.epoch_snapshot.specs.{Bases.IsBase, Checkpoints.Change, Cuts.sector_of, Images.image_of}
 use Rattle.checkpoint_stream.specs.ReadBack.{ReadsBack}
 use Rattle.checkpoint_stream.specs.{Readings.{begun, fed}, Sound.change_in, Text.text}

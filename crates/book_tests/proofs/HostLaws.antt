@@ -1,6 +1,6 @@
 -- The first runner at its start, with a machine of the guest that makes no step.
 use Rattle.std.proofs.Common.{◌≡◌, ℕ, [], length, sym, ap, ◌∙◌, subst}
-use Rattle.guest_machine.specs.Guest.{Guest, boot_guest}
+use Rattle.guest_rules.specs.Guest.{Guest, boot_guest}
 use Rattle.pair_history.specs.HistoryState.{HistoryState, start_state}
 use Rattle.growing_history.specs.{LogState.first_runner, Views.Member}
 use Rattle.pair_book.specs.Settled.{Runs, settled_runner}

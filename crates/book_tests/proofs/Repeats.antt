@@ -1,6 +1,6 @@
 -- The checkpoints of a machine that was settled and has made no step since make its guest again, and so what is prepared of them.
 use Rattle.std.proofs.Common.{◌≡◌, ℕ, zero, suc, ◌*◌, ◌≤◌, [], length, refl, sym, ◌∙◌, arith}
-use Rattle.guest_machine.specs.Guest.{Guest, State}
+use Rattle.guest_rules.specs.Guest.{Guest, State}
 use Rattle.epoch_snapshot.specs.{Bases.IsBase, Checkpoints.Change, Images.image_of}
 use Rattle.checkpoint_stream.specs.ReadBack.{ReadsBack}
 use Rattle.pair_history.specs.HistoryState.{HistoryState}

@@ -1,6 +1,6 @@
 -- What the runner's machine is to the pair, and what its checkpoints are, where it was settled and has made no step since.
 use Rattle.std.specs.Prelude.{◌≡◌, ◌*◌, [], length}
-use Rattle.guest_machine.specs.Guest.{Guest}
+use Rattle.guest_rules.specs.Guest.{Guest}
 use Rattle.epoch_snapshot.specs.Checkpoints.{Change}
 use Rattle.epoch_snapshot.specs.Images.{image_of}
 use Rattle.pair_history.specs.HistoryState.{HistoryState}

@@ -3,7 +3,8 @@ ghost use Rattle.std.specs.Prelude.{◌≡◌, IfOk};
 
 use crate::asserts::{holds, same};
 use crate::prepared::{SHAPE, read_back};
-use epoch_snapshot::{Checkpoint, cut_full};
+use epoch_cuts::cut_full;
+use epoch_snapshot::Checkpoint;
 use guest_machine::Machine;
 use pair_book::TextPacket;
 use std::alloc::Global;

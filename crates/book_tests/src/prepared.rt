@@ -1,13 +1,14 @@
 //! What is prepared of a machine that was settled and has made no step since: the guest after its epoch is its guest, and has sent nothing.
 ghost use Rattle.std.specs.Prelude.{◌≡◌, ℕ, ◌≤◌, ◌<◌, ◌^◌, [], IfOk, IfSome};
-ghost use Rattle.guest_machine.specs.Guest.{boot_guest};
+ghost use Rattle.guest_rules.specs.Guest.{boot_guest};
 ghost use Rattle.pair_history.specs.HistoryState.{HistoryState};
 ghost use Rattle.growing_history.specs.SealedTexts.{Makes};
 ghost use Rattle.pair_book.specs.Made.{Reads, carried};
 ghost use Rattle.book_tests.specs.Machines.{IsLike, Repeats};
 
 use checkpoint_stream::Reader;
-use epoch_snapshot::{Checkpoint, cut_delta, cut_full};
+use epoch_cuts::{cut_delta, cut_full};
+use epoch_snapshot::Checkpoint;
 use frame_ports::NUMBER_LIMIT;
 use guest_machine::{Machine, Shape};
 use memory_wanted::{MemoryWanted, from_slice};
@@ -29,7 +30,7 @@ pub(crate) struct SettledMachine {
 
 impl Model for SettledMachine {
     ghost use Rattle.std.specs.Prelude.{◌≡◌, []};
-    ghost use Rattle.guest_machine.specs.Guest.{Guest};
+    ghost use Rattle.guest_rules.specs.Guest.{Guest};
 
     ghost Value = { Guest };
 

@@ -7,7 +7,7 @@ use Rattle.checkpoint_stream.specs.{declared.place.Place.{Place, TheVariants.Who
 use Rattle.checkpoint_stream.specs.Readings.{Reading, is_full, has_frames}
 use Rattle.checkpoint_stream.specs.Sound.{IsSound, IsHead, HasRecords, HasFrames}
 use Rattle.checkpoint_stream.specs.Sound.{AllPass, StandsAt, FramesAt, change_in, state_from, version_from}
-use Rattle.guest_machine.specs.{declared.shapes.Shape.Shape, MachineStates.IsMachineState}
+use Rattle.guest_rules.specs.{declared.shapes.Shape.Shape, MachineStates.IsMachineState}
 use Rattle.virtio_mmio.specs.States.{is_queue_size, IsQueueRecord}
 use Rattle.epoch_snapshot.specs.{Checkpoints.IsCanonical, Limits.most_old_pages}
 

@@ -1,7 +1,7 @@
 -- The units of the head are read as its numbers.
 use Rattle.std.proofs.Common.{◌≡◌, ℕ, ◌+◌, ◌<◌, ◌%◌, ◌^◌, ◌==◌, List, [], ◌∷◌, ◌++◌, length, drop, get_or, IsTrue, true, false, refl, sym}
 use Rattle.std.proofs.{Common.{◌∙◌, ap, arith, append_assoc, length-drop}, lemmas.{List.{get_or-drop, drop-drop}, Bool.Decides.nat_tests}}
-use Rattle.guest_machine.specs.declared.shapes.Shape.{Shape}
+use Rattle.guest_rules.specs.declared.shapes.Shape.{Shape}
 use Rattle.checkpoint_stream.specs.declared.{rules.{Row.Row, Width.TheVariants.Four, Rule.TheVariants.Magic}, place.Place.Place}
 use Rattle.checkpoint_stream.specs.{declared.place.Place.TheVariants.{Head, PageCount}, HeadTable.{head_table, row_at, passes, bytes_of}}
 use Rattle.checkpoint_stream.specs.{HeadTable.{bytes_in, number}, Readings.{judged, kept_number, after_number}, Sound.{AllPass, last_after}}

@@ -1,6 +1,6 @@
 -- Units that lead from one reading to another, wherever in the stream.
 use Rattle.std.proofs.Common.{◌≡◌, ℕ, ◌+◌, ◌%◌, ◌<◌, ◌^◌, List, [], ◌∷◌, ◌++◌, length, Bool, true, false, refl, sym, ◌∙◌, ap, subst}
-use Rattle.guest_machine.specs.declared.shapes.Shape.{Shape}
+use Rattle.guest_rules.specs.declared.shapes.Shape.{Shape}
 use Rattle.checkpoint_stream.specs.{declared.place.Place.Place, Readings.{Reading, is_closed, width_of, judged, moved_if}}
 use Rattle.checkpoint_stream.specs.{declared.rules.Width.TheVariants.Four, HeadTable.{bytes_of, number_spelled}}
 use Rattle.checkpoint_stream.specs.{Units.{judged_all, AreUnits}}

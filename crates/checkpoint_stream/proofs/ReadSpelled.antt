@@ -2,7 +2,7 @@
 use Rattle.std.proofs.Common.{◌≡◌, ℕ, ◌+◌, ◌<◌, ◌==◌, List, [], ◌∷◌, ◌++◌, length, take, Bool, true, false, All, refl, sym, ◌∙◌, ap}
 use Rattle.std.proofs.Common.{subst, append_assoc, if◌then◌else◌, length-append}
 use Rattle.std.proofs.{Math.Seq.drop-length, lemmas.{List.Elements.{All-head, All-tail, All-push, All-nil}}}
-use Rattle.guest_machine.specs.declared.shapes.Shape.{Shape}
+use Rattle.guest_rules.specs.declared.shapes.Shape.{Shape}
 use Rattle.checkpoint_stream.specs.declared.place.Place.{Place, TheVariants.Whole}
 use Rattle.checkpoint_stream.specs.{HeadTable.head_table, Readings.{Reading, begun, is_closed, width_of, judged, fed_byte, fed, taken}}
 use Rattle.checkpoint_stream.specs.Sound.{IsSound, HasRecords, StandsAt, change_in}

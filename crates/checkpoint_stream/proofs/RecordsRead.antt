@@ -4,7 +4,7 @@ use Rattle.std.proofs.Common.{drop, IsTrue, not, Bool, true, false, refl, ◌∙
 use Rattle.std.proofs.{Common.{length-drop, length-append}, lemmas.List.{append-nil, take-append-drop}}
 use Rattle.std.proofs.lemmas.{List.{Elements.{All-head, All-tail, All-take, All-drop}, Sums.sum_by-cons}, Bool.Decides.nat_tests}
 use Rattle.std.proofs.lemmas.Nat.{zero_from_ones}
-use Rattle.guest_machine.specs.{Dirty.Rises, declared.shapes.Shape.Shape}
+use Rattle.guest_rules.specs.{Dirty.Rises, declared.shapes.Shape.Shape}
 use Rattle.epoch_snapshot.specs.{declared.changes.{PageChange.PageChange, SectorChange.SectorChange}, Blocks.is_zero}
 use Rattle.epoch_snapshot.specs.Checkpoints.{block_count}
 use Rattle.checkpoint_stream.specs.declared.{rules.Width.TheVariants.{Four, Eight}, place.Place.{TheVariants.{PageIndex}}}

@@ -2,7 +2,7 @@
 use Rattle.std.proofs.Common.{◌≡◌, ℕ, ◌+◌, ◌%◌, ◌^◌, ◌<◌, ◌≤◌, List, [], ◌++◌, Bool, true, length, take, drop, set, ap, sym, ◌∙◌, subst}
 use Rattle.std.proofs.Common.{refl, append_assoc, arith, length-drop, lit<}
 use Rattle.std.proofs.{Math.Seq.{take-add}, lemmas.List.{length-take-le, take_more_set}}
-use Rattle.guest_machine.specs.declared.shapes.Shape.{Shape}
+use Rattle.guest_rules.specs.declared.shapes.Shape.{Shape}
 use Rattle.checkpoint_stream.specs.declared.{place.Place.{Place, TheVariants.{Head, Block}}, rules.Width.{Width, TheVariants.{Two, Four}}}
 use Rattle.checkpoint_stream.specs.declared.{rules.{Row.Row, Width.TheVariants.Eight}, runs.Between.{Between}}
 use Rattle.checkpoint_stream.specs.{HeadTable.{row_at, passes, number_spelled, bytes_in}, Readings.{Reading, is_closed, width_at}}

@@ -1,7 +1,7 @@
 -- The units of the sector records are read as these.
 use Rattle.std.proofs.Common.{◌≡◌, ℕ, ◌+◌, ◌<◌, ◌%◌, ◌^◌, ◌&&◌, List, [], ◌∷◌, ◌++◌, length, map, IsTrue, not, Bool, true, false, All}
 use Rattle.std.proofs.{Common.{refl, ap, arith, append_assoc, nat_le, nat_lt}, lemmas.List.{append-nil, Elements.{All-head, All-tail}}}
-use Rattle.guest_machine.specs.{Dirty.Rises, declared.shapes.Shape.Shape}
+use Rattle.guest_rules.specs.{Dirty.Rises, declared.shapes.Shape.Shape}
 use Rattle.epoch_snapshot.specs.{declared.changes.SectorChange.SectorChange, Blocks.is_zero}
 use Rattle.checkpoint_stream.specs.declared.{rules.Width.TheVariants.Four, place.Place.TheVariants.{SectorIndex, SectorBytes}}
 use Rattle.checkpoint_stream.specs.{HeadTable.bytes_of, Readings.{Reading, judged, kept_sector, sectors_due, after_sectors, is_full}}

@@ -3,7 +3,7 @@ use Rattle.std.proofs.Common.{◌≡◌, ◌≢◌, ℕ, suc, zero, ◌+◌, ◌
 use Rattle.std.proofs.Common.{false, refl, sym, ◌∙◌, ap, subst, arith, nat_le, nat_lt, get_or, count_ones, if◌then◌else◌, length-append}
 use Rattle.std.proofs.{Common.{add-one, All, map, rules}, lemmas.{Bool.Decides.nat_tests, Nat.zero_from_ones, List.map-append}}
 use Rattle.std.proofs.lemmas.List.{Elements.All-push, Sums.sum_by_push}
-use Rattle.guest_machine.specs.{Dirty.Rises, declared.shapes.Shape.Shape}
+use Rattle.guest_rules.specs.{Dirty.Rises, declared.shapes.Shape.Shape}
 use Rattle.epoch_snapshot.specs.{declared.changes.{PageChange.PageChange, SectorChange.SectorChange}, Blocks.is_zero}
 use Rattle.epoch_snapshot.specs.Checkpoints.{block_count}
 use Rattle.checkpoint_stream.specs.declared.{rules.{Row.Row, Width.TheVariants.Four, Rule.TheVariants.Magic}, place.Place.Place}

@@ -3,7 +3,7 @@ use Rattle.std.proofs.Common.{◌≡◌, ℕ, suc, zero, ◌+◌, ◌<◌, ◌^�
 use Rattle.std.proofs.{Common.{if◌then◌else◌, slice_index, slice_index_or, drop, sym, ◌∙◌, ap}, lemmas.List.{drop_more, drop_all}}
 use Rattle.virtqueue.specs.{declared.rings.Queue.Queue, Queues.boot_queue}
 use Rattle.virtio_mmio.specs.declared.states.DeviceState.{DeviceState}
-use Rattle.guest_machine.specs.declared.machine_state.MachineState.{MachineState}
+use Rattle.guest_rules.specs.declared.machine_state.MachineState.{MachineState}
 use Rattle.epoch_snapshot.specs.Checkpoints.{Change, IsCanonical}
 use Rattle.checkpoint_stream.specs.{Sound.state_from, Text.{head_numbers, numbers_from}, Widths.{QueueFits, DeviceFits, StateFits}}
 

@@ -1,7 +1,7 @@
 -- What follows from each text's being read whole: at its last byte, as one checkpoint, and as no other's beginning.
 use Rattle.std.proofs.{lemmas.List.nil_from_length, Common.{◌≡◌, ◌≢◌, ℕ, suc, ◌+◌, ◌≤◌, List, [], ◌∷◌, ◌++◌, length, Bool, true, false}}
 use Rattle.std.proofs.Common.{refl, sym, ◌∙◌, ap, subst, arith, length-append, if◌then◌else◌}
-use Rattle.guest_machine.specs.declared.shapes.Shape.{Shape}
+use Rattle.guest_rules.specs.declared.shapes.Shape.{Shape}
 use Rattle.epoch_snapshot.specs.Checkpoints.{Change, IsCanonical}
 use Rattle.checkpoint_stream.specs.{declared.place.Place.TheVariants.{Whole, Failed}, Readings.{Reading, begun, is_closed, fed_byte, fed}}
 use Rattle.checkpoint_stream.specs.Readings.{taken}

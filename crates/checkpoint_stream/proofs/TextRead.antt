@@ -3,7 +3,7 @@ use Rattle.std.proofs.Common.{◌≡◌, ℕ, ◌<◌, ◌≤◌, List, [], ◌�
 use Rattle.std.proofs.Common.{◌++◌, nat_le}
 use Rattle.std.proofs.{Common.{false, ◌==◌, if◌then◌else◌}, lemmas.List.{length-map, Elements.{All-take, All-drop}}}
 use Rattle.std.proofs.lemmas.Bool.Decides.{nat_tests}
-use Rattle.guest_machine.specs.declared.machine_state.MachineState.{MachineState}
+use Rattle.guest_rules.specs.declared.machine_state.MachineState.{MachineState}
 use Rattle.epoch_snapshot.specs.{declared.changes.{PageChange.PageChange, SectorChange.SectorChange}, Checkpoints.{Change, IsCanonical}}
 use Rattle.epoch_snapshot.specs.Checkpoints.{change_of}
 use Rattle.arrayvec.specs.ArrayVec.{ArrayVec}

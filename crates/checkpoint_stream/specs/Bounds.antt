@@ -1,7 +1,7 @@
 -- HOW MUCH the format allows of a checkpoint, by its machine's shape alone: how long its text is, and how much a reader holds of one, whatever
 -- bytes come and however many, also where a unit broke its rule.
 use Rattle.std.specs.Prelude.{◌≡◌, ◌≤◌, ◌<◌, ℕ, ◌+◌, ◌*◌, All, length}
-use Rattle.guest_machine.specs.declared.shapes.Shape.{Shape}
+use Rattle.guest_rules.specs.declared.shapes.Shape.{Shape}
 use Rattle.net_device.specs.Frames.{IsFrame}
 use Rattle.checkpoint_stream.specs.Readings.{Reading}
 

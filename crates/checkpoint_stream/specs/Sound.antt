@@ -1,9 +1,9 @@
 -- What is true of each reading: what was read so far is the front of a canonical checkpoint.
 use Rattle.std.specs.Prelude.{◌≡◌, ◌≢◌, ℕ, ◌+◌, ◌%◌, ◌^◌, ◌<◌, ◌≤◌, ◌==◌, if◌then◌else◌, true, false, IsTrue, not, List, [], ◌∷◌, length}
 use Rattle.std.specs.Prelude.{map, All, slice_index, Option, None, Some}
-use Rattle.guest_machine.specs.Dirty.{Rises}
-use Rattle.guest_machine.specs.declared.shapes.Shape.{Shape}
-use Rattle.guest_machine.specs.declared.machine_state.MachineState.{MachineState}
+use Rattle.guest_rules.specs.Dirty.{Rises}
+use Rattle.guest_rules.specs.declared.shapes.Shape.{Shape}
+use Rattle.guest_rules.specs.declared.machine_state.MachineState.{MachineState}
 use Rattle.virtqueue.specs.declared.rings.Queue.{Queue}
 use Rattle.virtqueue.specs.Queues.{boot_queue}
 use Rattle.virtio_mmio.specs.declared.states.DeviceState.{DeviceState}

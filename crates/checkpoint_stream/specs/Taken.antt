@@ -6,7 +6,7 @@ use Rattle.arrayvec.specs.ArrayVec.{ArrayVec}
 use Rattle.checkpoint_stream.specs.declared.place.Place.{Place}
 use Rattle.checkpoint_stream.specs.declared.place.Place.TheVariants.{Head, FrameLength, FrameBytes, Whole, Failed}
 use Rattle.checkpoint_stream.specs.declared.marks.Mark.{Mark}
-use Rattle.guest_machine.specs.declared.shapes.Shape.{Shape}
+use Rattle.guest_rules.specs.declared.shapes.Shape.{Shape}
 use Rattle.checkpoint_stream.specs.declared.runs.Between.{Between}
 use Rattle.checkpoint_stream.specs.Readings.{Reading, fed, taken, width_at, after_number}
 

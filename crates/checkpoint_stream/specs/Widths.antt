@@ -1,6 +1,6 @@
 -- What the types of a checkpoint's parts say of its numbers and of its lists.
 use Rattle.std.specs.Prelude.{◌≡◌, ◌^◌, ◌<◌, length, All}
-use Rattle.guest_machine.specs.declared.machine_state.MachineState.{MachineState}
+use Rattle.guest_rules.specs.declared.machine_state.MachineState.{MachineState}
 use Rattle.virtqueue.specs.declared.rings.Queue.{Queue}
 use Rattle.virtio_mmio.specs.declared.states.DeviceState.{DeviceState}
 use Rattle.virtio_mmio.specs.States.{queue_at}

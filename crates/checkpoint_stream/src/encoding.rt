@@ -13,7 +13,7 @@ use crate::rules::{HEAD_NUMBERS, NEW_MAGIC, OLD_MAGIC, Width, head_row};
 use crate::widths::{block_widths, state_widths};
 use epoch_snapshot::{BLOCK_BYTES, Block, Checkpoint, PageChange, SectorChange};
 use frame_list::FrameList;
-use guest_machine::SECTOR_BYTES;
+use guest_rules::SECTOR_BYTES;
 use memory_wanted::{MemoryWanted, extend_from_slice, with_capacity};
 use std::alloc::Global;
 

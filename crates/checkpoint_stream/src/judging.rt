@@ -13,7 +13,7 @@ use crate::parts::Parts;
 use crate::place::{Place, after_block, after_number, pages_due, sectors_due};
 use crate::rules::{NEW_MAGIC, Row, Width, head_row, number_of, passes, u32_of};
 use epoch_snapshot::{BLOCK_BYTES, PageChange, SectorChange};
-use guest_machine::SECTOR_BYTES;
+use guest_rules::SECTOR_BYTES;
 use memory_wanted::{MemoryWanted, push};
 
 impl Parts {

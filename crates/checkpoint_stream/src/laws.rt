@@ -1,7 +1,7 @@
 //! Laws of reading.
 
 ghost use Rattle.std.specs.Prelude.{◌≡◌, ◌≢◌, ◌<◌, ◌≤◌, ℕ, true, List, [], ◌∷◌, ◌++◌, All, length, take, count_ones};
-ghost use Rattle.guest_machine.specs.declared.shapes.Shape.{Shape};
+ghost use Rattle.guest_rules.specs.declared.shapes.Shape.{Shape};
 ghost use Rattle.epoch_snapshot.specs.declared.changes.PageChange.{PageChange};
 ghost use Rattle.epoch_snapshot.specs.Checkpoints.{Change, IsCanonical};
 ghost use Rattle.checkpoint_stream.specs.declared.place.Place.TheVariants.{Whole, Failed};

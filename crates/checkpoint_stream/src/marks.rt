@@ -2,7 +2,7 @@
 
 use crate::place::Place;
 use crate::rules::HEAD_NUMBERS;
-use guest_machine::SECTOR_BYTES;
+use guest_rules::SECTOR_BYTES;
 
 /// All that a reader keeps but the lists of parts and the bytes of a frame that has begun, and how long the lists are.
 #[derive(Clone, Copy)]

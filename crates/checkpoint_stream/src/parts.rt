@@ -14,7 +14,7 @@ use crate::states::{state_from, version_from};
 use crate::widths::{block_widths, mask_widths, sector_widths};
 use epoch_snapshot::{Block, Checkpoint, PageChange, SectorChange};
 use frame_list::{Frame, FrameList};
-use guest_machine::{SECTOR_BYTES, Shape};
+use guest_rules::{SECTOR_BYTES, Shape};
 use memory_wanted::MemoryWanted;
 use std::alloc::Global;
 use std::marker::Model;

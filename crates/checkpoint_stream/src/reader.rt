@@ -13,7 +13,7 @@ ghost use Rattle.checkpoint_stream.specs.declared.place.Place.TheVariants.{Whole
 use crate::errors::StreamError;
 use crate::parts::Parts;
 use epoch_snapshot::Checkpoint;
-use guest_machine::Shape;
+use guest_rules::Shape;
 use std::alloc::Global;
 use std::marker::Model;
 

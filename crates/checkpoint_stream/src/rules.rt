@@ -5,7 +5,7 @@ ghost use Rattle.checkpoint_stream.specs.HeadTable.{row_at, passes, number_spell
 ghost use Rattle.checkpoint_stream.specs.declared.rules.Width.TheVariants.{Four};
 
 use epoch_snapshot::MOST_OLD_PAGES;
-use guest_machine::Shape;
+use guest_rules::Shape;
 use mtraps::legal_value;
 
 /// How many bytes a number takes.

@@ -9,7 +9,7 @@ use crate::parts::Parts;
 use crate::place::{Place, after_number};
 use crate::rules::{HEAD_NUMBERS, head_row, number_of, passes};
 use epoch_snapshot::BLOCK_BYTES;
-use guest_machine::Shape;
+use guest_rules::Shape;
 use memory_wanted::MemoryWanted;
 
 /// The bytes of the widest number.

@@ -4,7 +4,7 @@ ghost use Rattle.std.specs.Prelude.{◌≡◌, ◌+◌, ◌≤◌, ◌%◌, ◌^
 ghost use Rattle.checkpoint_stream.specs.Sound.{version_from, state_from, queue_from, device_from};
 
 use crate::rules::{HEAD_NUMBERS, NEW_MAGIC};
-use guest_machine::MachineState;
+use guest_rules::MachineState;
 use mtraps::CsrValues;
 use virtio_mmio::DeviceState;
 use virtqueue::Queue;

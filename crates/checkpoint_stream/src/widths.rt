@@ -4,7 +4,7 @@ ghost use Rattle.std.specs.Prelude.{◌≡◌, ◌<◌, ◌^◌, length, All};
 ghost use Rattle.checkpoint_stream.specs.Widths.{QueueFits, DeviceFits, StateFits};
 
 use epoch_snapshot::{Block, PageChange, SectorChange};
-use guest_machine::MachineState;
+use guest_rules::MachineState;
 use virtio_mmio::DeviceState;
 use virtqueue::Queue;
 

@@ -2,7 +2,8 @@
 
 use crate::asserts::{boxed, holds, holds_at, made};
 use crate::guests::{Guest, machine_after};
-use epoch_snapshot::{Checkpoint, cut_delta, cut_full};
+use epoch_cuts::{cut_delta, cut_full};
+use epoch_snapshot::Checkpoint;
 use frame_list::FrameList;
 use guest_machine::Machine;
 use std::alloc::Global;

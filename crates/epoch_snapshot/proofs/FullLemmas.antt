@@ -3,17 +3,17 @@ use Rattle.std.proofs.Common.{◌≡◌, ℕ, zero, suc, ◌+◌, ◌*◌, ◌^�
 use Rattle.std.proofs.{Common.{refl, sym, ap, ◌∙◌, arith, subst, All, lit<}, lemmas.{Simd.map-map, List.Elements.{All-nil, All-cons}}}
 use Rattle.std.{proofs.lemmas.List.length-replicate, specs.{List.{range_with_len, filter}, Int.{bit_at, Bits.xor_zero_l}}}
 use Rattle.net_device.specs.Frames.{IsFrame}
-use Rattle.guest_machine.specs.{Dirty.Rises, Guest.{Guest, State, sector_count}, MachineStates.{IsMachineState, state_of, with_state}, Pages.page_of}
+use Rattle.guest_rules.specs.{Dirty.Rises, Guest.{Guest, State, sector_count}, MachineStates.{IsMachineState, state_of, with_state}, Pages.page_of}
 use Rattle.epoch_snapshot.specs.{declared.changes.{PageChange.PageChange, SectorChange.SectorChange}, Bases.{IsCheckpointOver, IsFullCut}}
 use Rattle.epoch_snapshot.specs.{Blocks.{block_in, block_differs, set_blocks, xored}, Checkpoints.{Change, IsCanonical}, Images.image_of}
 use Rattle.epoch_snapshot.specs.Cuts.{page_change, is_changed, changed_pages, block_change, changed_blocks, sector_change, changed_sectors}
 use Rattle.epoch_snapshot.specs.Cuts.{used_sectors}
-use Rattle.epoch_snapshot.proofs.MaskLemmas.{changed_mask-lt}
-use Rattle.epoch_snapshot.proofs.BlockLemmas.{length-block}
+use Rattle.epoch_snapshot.specs.laws.Masks.{changed_mask-lt}
+use Rattle.epoch_snapshot.specs.laws.Xored.{length-block}
 use Rattle.epoch_snapshot.specs.laws.Bytes.{length-xored}
-use Rattle.epoch_snapshot.proofs.CutLemmas.{block_numbers-changed}
-use Rattle.epoch_snapshot.proofs.PageLemmas.{block_in-page, map_agree_in, one_page, zero_block}
-use Rattle.epoch_snapshot.proofs.{SectorLemmas.{Rises-used, used-nonzero, length-sector_of}, ImageLemmas.{IsCanonical-cut, image-full, count_is}}
+use Rattle.epoch_snapshot.specs.laws.Cuts.{block_numbers-changed}
+use Rattle.epoch_snapshot.specs.laws.Pages.{block_in-page, map_agree_in, one_page, zero_block}
+use Rattle.epoch_snapshot.specs.laws.{Sectors.{Rises-used, used-nonzero, length-sector_of}, Images.{IsCanonical-cut, image-full, count_is}}
 
 zeros : List ℕ → List ℕ
 zeros ram = replicate (length ram) 0

@@ -1,20 +1,12 @@
 -- What checkpoints are cut over, and what a cut records.
 use Rattle.std.specs.Prelude.{◌≡◌, ℕ, ◌*◌, ◌<◌, false, List, [], length, replicate}
-use Rattle.guest_machine.specs.Dirty.{is_in}
-use Rattle.guest_machine.specs.Guest.{Guest, sector_count}
-use Rattle.guest_machine.specs.MachineStates.{state_of}
-use Rattle.guest_machine.specs.Guest.{State}
-use Rattle.guest_machine.specs.Limits.{page_bytes}
-use Rattle.epoch_snapshot.specs.declared.memory.Over.{Over}
-use Rattle.epoch_snapshot.specs.declared.memory.Over.TheVariants.{Settled, Zero}
+use Rattle.guest_rules.specs.Dirty.{is_in}
+use Rattle.guest_rules.specs.Guest.{Guest, State, sector_count}
+use Rattle.guest_rules.specs.MachineStates.{state_of}
+use Rattle.guest_rules.specs.Limits.{page_bytes}
 use Rattle.arrayvec.specs.ArrayVec.{ArrayVec}
 use Rattle.epoch_snapshot.specs.Checkpoints.{Change}
 use Rattle.epoch_snapshot.specs.Cuts.{sector_of, changed_pages, changed_blocks, changed_sectors, used_sectors}
-
--- the memory that a machine's checkpoint is cut over
-abbrev pub old_ram : Over → State → List ℕ
-old_ram Settled m = m.settled
-old_ram Zero m = replicate (length m.guest.ram) 0
 
 -- a checkpoint of a machine, of version 2, records exactly the pages and blocks that differ from an old memory, exactly these sectors, and
 -- exactly these frames, in order; g is its generation and n its number

@@ -1,10 +1,10 @@
 -- What a checkpoint states of a machine, and of what its guest sent.
 use Rattle.std.specs.Prelude.{◌≡◌, ◌≢◌, ℕ, ◌^◌, ◌<◌, ◌≤◌, IsTrue, not, List, [], length, map, All, count_ones, Bool, ◌&&◌, ◌==◌}
 use Rattle.std.specs.List.{sum_by}
-use Rattle.guest_machine.specs.Dirty.{Rises}
-use Rattle.guest_machine.specs.declared.shapes.Shape.{Shape}
-use Rattle.guest_machine.specs.declared.machine_state.MachineState.{MachineState}
-use Rattle.guest_machine.specs.MachineStates.{IsMachineState}
+use Rattle.guest_rules.specs.Dirty.{Rises}
+use Rattle.guest_rules.specs.declared.shapes.Shape.{Shape}
+use Rattle.guest_rules.specs.declared.machine_state.MachineState.{MachineState}
+use Rattle.guest_rules.specs.MachineStates.{IsMachineState}
 use Rattle.epoch_snapshot.specs.declared.changes.PageChange.{PageChange}
 use Rattle.epoch_snapshot.specs.declared.changes.SectorChange.{SectorChange}
 use Rattle.net_device.specs.Frames.{IsFrame}

@@ -1,10 +1,10 @@
 -- What a checkpoint makes of a guest.
 use Rattle.std.specs.Prelude.{ℕ, ◌*◌, ◌==◌, if◌then◌else◌, List, [], ◌∷◌, replicate}
-use Rattle.guest_machine.specs.Guest.{Guest}
-use Rattle.guest_machine.specs.Limits.{page_bytes}
-use Rattle.guest_machine.specs.MachineStates.{with_state}
+use Rattle.guest_rules.specs.Guest.{Guest}
+use Rattle.guest_rules.specs.Limits.{page_bytes}
+use Rattle.guest_rules.specs.MachineStates.{with_state}
 use Rattle.epoch_snapshot.specs.declared.changes.SectorChange.{SectorChange}
-use Rattle.guest_machine.specs.Bytes.{with_bytes, with_xored}
+use Rattle.guest_rules.specs.Bytes.{with_bytes, with_xored}
 use Rattle.epoch_snapshot.specs.Blocks.{block_numbers}
 use Rattle.epoch_snapshot.specs.Checkpoints.{Change}
 

@@ -1,6 +1,6 @@
 //! What a checkpoint says of one page and of one sector.
 
-use guest_machine::SECTOR_BYTES;
+use guest_rules::SECTOR_BYTES;
 
 /// Bytes in a block, 64 of which are a page.
 pub const BLOCK_BYTES: usize = 64;

@@ -3,7 +3,7 @@ ghost use Rattle.std.specs.Prelude.{◌≡◌, ◌==◌, ◌↔◌, IsTrue};
 
 use crate::changes::{Block, PageChange, SectorChange};
 use frame_list::FrameList;
-use guest_machine::{MachineState, Shape};
+use guest_rules::{MachineState, Shape};
 use std::marker::Model;
 
 /// Pages of the machine of a checkpoint of version 1, at most.

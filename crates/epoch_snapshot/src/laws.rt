@@ -2,10 +2,10 @@
 ghost use Rattle.std.specs.Prelude.{◌≡◌, ℕ, ◌+◌, ◌*◌, ◌^◌, ◌<◌, ◌≤◌, ◌==◌, ◌↔◌, Bool, IsTrue, if◌then◌else◌};
 ghost use Rattle.std.specs.Prelude.{List, [], ◌∷◌, ◌++◌, All, length, map, replicate, count_ones};
 ghost use Rattle.std.specs.Int.{bit_at};
-ghost use Rattle.guest_machine.specs.Guest.{Guest, State, sector_of};
-ghost use Rattle.guest_machine.specs.Limits.{page_bytes};
-ghost use Rattle.guest_machine.specs.MachineStates.{IsMachineState, state_of, with_state};
-ghost use Rattle.guest_machine.specs.Pages.{page_of};
+ghost use Rattle.guest_rules.specs.Guest.{Guest, State, sector_of};
+ghost use Rattle.guest_rules.specs.Limits.{page_bytes};
+ghost use Rattle.guest_rules.specs.MachineStates.{IsMachineState, state_of, with_state};
+ghost use Rattle.guest_rules.specs.Pages.{page_of};
 ghost use Rattle.epoch_snapshot.specs.declared.changes.PageChange.{PageChange};
 ghost use Rattle.epoch_snapshot.specs.Bases.{IsFullCut};
 ghost use Rattle.epoch_snapshot.specs.Blocks.{IsPageIn, block_in, changed_mask, named_below, set_blocks};

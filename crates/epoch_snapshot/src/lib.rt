@@ -7,15 +7,11 @@
 
 mod changes;
 mod checkpoint;
-mod cut;
 mod laws;
 mod limits;
-mod memory;
-mod sectors;
 
 pub use changes::{BLOCK_BYTES, Block, PageChange, SectorChange};
 pub use checkpoint::{Checkpoint, MOST_OLD_PAGES};
-pub use cut::{cut_delta, cut_full};
 pub use laws::{
     changes_are_found_in_turn, full_cuts_are_whole, masks_name_blocks, pages_are_their_blocks,
 };

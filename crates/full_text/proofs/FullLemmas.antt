@@ -4,10 +4,10 @@ use Rattle.std.proofs.Common.{refl, sym, ap, ◌∙◌, arith, subst, All, Optio
 use Rattle.std.proofs.lemmas.List.{length-append, length-map}
 use Rattle.std.proofs.lemmas.List.Elements.{All-nil, All-cons, All-head, All-tail}
 use Rattle.std.proofs.lemmas.List.Sums.{sum_by-cons}
-use Rattle.guest_machine.specs.Dirty.{Rises}
-use Rattle.guest_machine.specs.Guest.{Guest, State, sector_count}
-use Rattle.guest_machine.specs.MachineStates.{state_of}
-use Rattle.guest_machine.specs.declared.shapes.Shape.{Shape}
+use Rattle.guest_rules.specs.Dirty.{Rises}
+use Rattle.guest_rules.specs.Guest.{Guest, State, sector_count}
+use Rattle.guest_rules.specs.MachineStates.{state_of}
+use Rattle.guest_rules.specs.declared.shapes.Shape.{Shape}
 use Rattle.epoch_snapshot.specs.declared.changes.PageChange.{PageChange}
 use Rattle.epoch_snapshot.specs.declared.changes.SectorChange.{SectorChange}
 use Rattle.epoch_snapshot.specs.Bases.{IsFullCut}

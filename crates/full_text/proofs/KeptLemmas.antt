@@ -4,7 +4,7 @@ use Rattle.std.proofs.Common.{◌∙◌, arith, append_assoc, All, Option, None,
 use Rattle.std.proofs.lemmas.List.{append-nil, length-append, length-drop, drop-append-le, take-append-le, take_all, drop_at, drop_all, drop-drop, map-set}
 use Rattle.std.proofs.lemmas.List.{get_or-set_same, get_or-set_other}
 use Rattle.std.proofs.lemmas.List.Elements.{All-head, All-tail, All-weaker}
-use Rattle.guest_machine.specs.Pages.{page_of}
+use Rattle.guest_rules.specs.Pages.{page_of}
 use Rattle.epoch_snapshot.specs.declared.changes.PageChange.{PageChange}
 use Rattle.epoch_snapshot.specs.Blocks.{block_in, set_blocks}
 use Rattle.checkpoint_stream.specs.HeadTable.{bytes_of}

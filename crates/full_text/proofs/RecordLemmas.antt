@@ -8,7 +8,7 @@ use Rattle.std.proofs.Math.Seq.{drop-cons}
 use Rattle.std.specs.Prelude.{count_ones}
 use Rattle.std.specs.Int.{bit_at}
 use Rattle.std.specs.List.{range_with_len, filter}
-use Rattle.guest_machine.specs.Pages.{page_of}
+use Rattle.guest_rules.specs.Pages.{page_of}
 use Rattle.epoch_snapshot.specs.declared.changes.PageChange.{PageChange}
 use Rattle.epoch_snapshot.specs.Blocks.{block_in, named_below, set_blocks}
 use Rattle.epoch_snapshot.specs.Cuts.{changed_blocks}

@@ -9,8 +9,8 @@ use Rattle.epoch_snapshot.specs.declared.changes.SectorChange.{SectorChange}
 use Rattle.epoch_snapshot.specs.Blocks.{block_numbers, set_blocks}
 use Rattle.epoch_snapshot.specs.Checkpoints.{Change}
 use Rattle.epoch_snapshot.specs.Cuts.{block_change, changed_blocks, changed_sectors, sector_change, sector_of}
-use Rattle.guest_machine.specs.Guest.{Guest}
-use Rattle.guest_machine.specs.declared.shapes.Shape.{Shape}
+use Rattle.guest_rules.specs.Guest.{Guest}
+use Rattle.guest_rules.specs.declared.shapes.Shape.{Shape}
 use Rattle.checkpoint_stream.specs.HeadTable.{bytes_of, head_table}
 use Rattle.checkpoint_stream.specs.Text.{head_numbers, number_units, page_units, sector_units, frame_units, joined, text}
 use Rattle.checkpoint_stream.specs.declared.rules.Width.TheVariants.{Four, Eight}

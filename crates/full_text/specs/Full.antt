@@ -2,11 +2,11 @@
 use Rattle.std.specs.Prelude.{◌≡◌, ◌≤◌, ◌<◌, ℕ, ◌+◌, ◌*◌, List, [], ◌∷◌, ◌++◌, length, map, take, drop, replicate, count_ones, All}
 use Rattle.std.specs.Prelude.{Option, None, Some, slice_index_or}
 use Rattle.std.specs.List.{sum_by}
-use Rattle.guest_machine.specs.Guest.{Guest, State, sector_count}
-use Rattle.guest_machine.specs.Limits.{page_bytes}
-use Rattle.guest_machine.specs.MachineStates.{state_of}
-use Rattle.guest_machine.specs.Pages.{page_of}
-use Rattle.guest_machine.specs.declared.shapes.Shape.{Shape}
+use Rattle.guest_rules.specs.Guest.{Guest, State, sector_count}
+use Rattle.guest_rules.specs.Limits.{page_bytes}
+use Rattle.guest_rules.specs.MachineStates.{state_of}
+use Rattle.guest_rules.specs.Pages.{page_of}
+use Rattle.guest_rules.specs.declared.shapes.Shape.{Shape}
 use Rattle.epoch_snapshot.specs.declared.changes.PageChange.{PageChange}
 use Rattle.epoch_snapshot.specs.Bases.{IsCheckpointOver}
 use Rattle.epoch_snapshot.specs.Blocks.{block_in, set_blocks}

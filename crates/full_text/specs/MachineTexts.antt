@@ -1,6 +1,6 @@
 -- A machine, and the texts of its checkpoints that are pending.
 use Rattle.std.specs.Prelude.{◌≡◌, ℕ, ◌^◌, List, [], Option, None, Some, length, replicate, false}
-use Rattle.guest_machine.specs.Guest.{State}
+use Rattle.guest_rules.specs.Guest.{State}
 use Rattle.full_text.specs.Full.{Making, whole}
 
 -- so many texts have room

@@ -1,6 +1,6 @@
 //! Which pages and sectors of a machine aren't all zero.
 ghost use Rattle.std.specs.Prelude.{◌≡◌, ◌+◌, ◌*◌, ◌≤◌, [], length, OnOk};
-ghost use Rattle.guest_machine.specs.Limits.{page_bytes};
+ghost use Rattle.guest_rules.specs.Limits.{page_bytes};
 ghost use Rattle.epoch_snapshot.specs.Blocks.{changed_mask};
 ghost use Rattle.epoch_snapshot.specs.Cuts.{changed_pages, used_sectors};
 ghost use Rattle.full_text.specs.Full.{zeros};

@@ -1,10 +1,10 @@
 //! A machine, and the texts of its checkpoints that are pending.
 ghost use Rattle.std.specs.Prelude.{◌≡◌, ◌≤◌, ◌<◌, ◌+◌, ◌∷◌, ◌++◌, ℕ, List, [], None, IfSome, OnOk, drop, length, max, slice_index_or, vec_capacity};
 ghost use Rattle.net_device.specs.Receive.{received};
-ghost use Rattle.guest_machine.specs.Flags.{KeepsFlags};
-ghost use Rattle.guest_machine.specs.Limits.{stepping_frames};
-ghost use Rattle.guest_machine.specs.Runs.{HaveRoom, after_steps, marked_in, sent_in};
-ghost use Rattle.guest_machine.specs.Step.{arrived};
+ghost use Rattle.guest_rules.specs.Flags.{KeepsFlags};
+ghost use Rattle.guest_rules.specs.Limits.{stepping_frames};
+ghost use Rattle.guest_rules.specs.Runs.{HaveRoom, after_steps, marked_in, sent_in};
+ghost use Rattle.guest_rules.specs.Step.{arrived};
 ghost use Rattle.full_text.specs.Full.{AreIn, IsMadeTo, most_record, part_of, whole};
 ghost use Rattle.full_text.specs.MachineTexts.{IsKept, ahead, made_bytes, most_texts, settled_at};
 ghost use Rattle.full_text.specs.internal.TextFields.{FullFits, full_count, texts_of};

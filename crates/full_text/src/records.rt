@@ -1,6 +1,6 @@
 //! The records of pages, as they stood at the machine's last settle.
 ghost use Rattle.std.specs.Prelude.{◌≡◌, ℕ, ◌+◌, ◌*◌, ◌<◌, ◌≤◌, ◌++◌, true, false, length, map, drop, count_ones, vec_capacity, All, OnOk};
-ghost use Rattle.guest_machine.specs.Limits.{page_bytes};
+ghost use Rattle.guest_rules.specs.Limits.{page_bytes};
 ghost use Rattle.epoch_snapshot.specs.Blocks.{block_in, set_blocks};
 ghost use Rattle.checkpoint_stream.specs.HeadTable.{bytes_of};
 ghost use Rattle.checkpoint_stream.specs.Text.{joined};

@@ -4,7 +4,7 @@ ghost use Rattle.epoch_snapshot.specs.Cuts.{changed_sectors};
 ghost use Rattle.checkpoint_stream.specs.HeadTable.{bytes_of};
 ghost use Rattle.checkpoint_stream.specs.Text.{joined, sector_units};
 ghost use Rattle.checkpoint_stream.specs.declared.rules.Width.TheVariants.{Four};
-ghost use Rattle.guest_machine.specs.Guest.{sector_count};
+ghost use Rattle.guest_rules.specs.Guest.{sector_count};
 
 use crate::records::{COUNT_BYTES, put, put_four};
 use crate::rows::front_of;

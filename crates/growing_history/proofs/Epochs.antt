@@ -1,6 +1,6 @@
 -- What an epoch of the runner takes in, and what it makes of the guest.
 use Rattle.std.proofs.Common.{◌≡◌, ℕ, List, [], ◌∷◌, ◌++◌, map, refl, ap, ◌∙◌, subst, append_assoc}
-use Rattle.guest_machine.specs.Step.{next, sent}
+use Rattle.guest_rules.specs.Step.{next, sent}
 use Rattle.pair_history.specs.Entries.{Entry, Ran, Arrive}
 use Rattle.pair_history.specs.HistoryState.{HistoryState, IsFirst, frame_numbered, without_number, with_arrived, at, sent_along}
 use Rattle.pair_history.specs.HistoryState as history

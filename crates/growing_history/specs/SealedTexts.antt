@@ -1,7 +1,7 @@
 -- What sealed texts make of guests, and which frames they carry. What a text makes of a guest is a parameter here: the checkpoint format
 -- stands elsewhere.
 use Rattle.std.specs.Prelude.{◌≡◌, ℕ, zero, suc, List, [], ◌∷◌, ◌++◌}
-use Rattle.guest_machine.specs.Guest.{Guest}
+use Rattle.guest_rules.specs.Guest.{Guest}
 use Rattle.pair_history.specs.Entries.{Frame, Entry}
 use Rattle.pair_history.specs.HistoryState.{HistoryState, at, sent_along}
 use Rattle.growing_history.specs.Steps.{What, Sealed, Step}

@@ -3,7 +3,7 @@ ghost use Rattle.std.specs.Prelude.{◌≡◌, ◌≢◌, ℕ, ◌+◌, ◌≤�
 ghost use Rattle.failover.specs.Changes.{row};
 ghost use Rattle.failover.specs.declared.change.Change.TheVariants.{FailPrimary, FailBackup, GoLive, Protect};
 ghost use Rattle.frame_ports.specs.Addresses.{IsFrame};
-ghost use Rattle.guest_machine.specs.Guest.{Guest};
+ghost use Rattle.guest_rules.specs.Guest.{Guest};
 ghost use Rattle.pair_history.specs.Entries as entries;
 ghost use Rattle.pair_history.specs.Entries.{Entry, Frame, Arrive};
 ghost use Rattle.pair_history.specs.HistoryState.{HistoryState, IsClient, at, sent_along, frame_numbered, inbox_of};

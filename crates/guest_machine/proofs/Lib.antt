@@ -1,12 +1,6 @@
 pub mod BytesLemmas
 pub mod FlagLemmas
 pub mod TimerLemmas
-pub mod StepCases
-pub mod SentLemmas
-pub mod CountLemmas
-pub mod AlignedLemmas
-pub mod ApartLemmas
-pub mod RunLemmas
 pub mod QuietLemmas
 pub mod OpLemmas
 pub mod WalkLemmas
@@ -14,7 +8,5 @@ pub mod PaceLemmas
 pub mod CsrLemmas
 pub mod KeptLemmas
 pub mod PlaceLemmas
-pub mod MemoryLemmas
 pub mod RegisterLemmas
 pub mod StateLemmas
-pub mod ListedLemmas

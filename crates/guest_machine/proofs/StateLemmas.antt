@@ -1,9 +1,9 @@
 -- A guest with its own state put is itself.
 use Rattle.std.proofs.Common.{◌≡◌, ℕ, List, [], ◌∷◌, drop, sym, ap, ◌∙◌, arith}
 use Rattle.rv64_core.specs.Registers.{AreRegisters}
-use Rattle.guest_machine.specs.declared.machine_state.MachineState.{MachineState}
-use Rattle.guest_machine.specs.Guest.{Guest}
-use Rattle.guest_machine.specs.MachineStates.{state_of, with_state}
+use Rattle.guest_rules.specs.declared.machine_state.MachineState.{MachineState}
+use Rattle.guest_rules.specs.Guest.{Guest}
+use Rattle.guest_rules.specs.MachineStates.{state_of, with_state}
 
 whole_registers : (x : List ℕ) → AreRegisters x → 0 ∷ drop 1 x ≡ x
 whole_registers [] h = absurd (omega (arith, h.count))

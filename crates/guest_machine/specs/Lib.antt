@@ -1,23 +1,10 @@
-pub mod Places
-pub mod Aligned
-pub mod Beacon
-pub mod Blocks
-pub mod DiskGuest
 pub mod Errors
-pub mod Examples
-pub mod Flags
-pub mod Guest
 pub mod KeptWords
 pub mod Leaves
-pub mod Limits
-pub mod MachineStates
 pub mod Paces
 pub mod OpSteps
 pub mod PageOps
 pub mod Parts
-pub mod Pending
-pub mod Runs
-pub mod Step
 pub mod Stretches
 pub mod Walks
 -- what public clauses cite of lower crates

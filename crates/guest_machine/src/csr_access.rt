@@ -1,7 +1,7 @@
 //! Instructions that read and write the control and status registers (CSRs).
 ghost use Rattle.std.specs.Prelude.{◌≡◌, List, ℕ};
 ghost use Rattle.guest_machine.specs.Parts.{guest_of};
-ghost use Rattle.guest_machine.specs.Step.{quiet, csr_value, combined, csr_accessed};
+ghost use Rattle.guest_rules.specs.Step.{quiet, csr_value, combined, csr_accessed};
 
 use crate::devices::Devices;
 use crate::hart::Hart;

@@ -28,9 +28,9 @@ ghost use Rattle.virtio_mmio.specs.Transport.{loaded, stored};
 ghost use Rattle.net_device.specs.Receive.{received};
 ghost use Rattle.block_device.specs.Contents.{capacity, boot_contents, contents_with, unlisted};
 ghost use Rattle.block_device.specs.Dirty.{Rises};
-ghost use Rattle.guest_machine.specs.Flags.{KeepsFlags};
-ghost use Rattle.guest_machine.specs.Guest.{sector_count, sector_of};
-ghost use Rattle.guest_machine.specs.Step.{acted, disk_acted};
+ghost use Rattle.guest_rules.specs.Flags.{KeepsFlags};
+ghost use Rattle.guest_rules.specs.Guest.{sector_count, sector_of};
+ghost use Rattle.guest_rules.specs.Step.{acted, disk_acted};
 
 use crate::lending::{receive, serve, transmit};
 use crate::ram::Ram;

@@ -2,7 +2,7 @@
 ghost use Rattle.std.specs.Prelude.{◌≡◌, ℕ, List};
 ghost use Rattle.mtraps.specs.Interrupts.{due_interrupt};
 ghost use Rattle.guest_machine.specs.Parts.{guest_of};
-ghost use Rattle.guest_machine.specs.Pending.{mip};
+ghost use Rattle.guest_rules.specs.Pending.{mip};
 
 use crate::devices::Devices;
 use crate::hart::Hart;
@@ -10,7 +10,7 @@ use mtraps::interrupts::{EXTERNAL, SOFTWARE, TIMER};
 
 /// The interrupts that are pending, as the CSR mip reads.
 #[inline]
-#[tactic(auto, unfolding(crate::specs::Pending::mip))]
+#[tactic(auto, unfolding(guest_rules::specs::Pending::mip))]
 pub(crate) fn pending(hart: &Hart, devices: &Devices) -> u64
     ensures { (ram : List ℕ) → result ≡ mip (guest_of hart.now ram devices.now) }
 {

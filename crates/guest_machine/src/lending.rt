@@ -6,7 +6,7 @@ ghost use Rattle.net_device.specs.Receive.{received};
 ghost use Rattle.net_device.specs.Transmit.{served};
 ghost use Rattle.block_device.specs.Contents.{unlisted};
 ghost use Rattle.block_device.specs.Disk.{disk_served};
-ghost use Rattle.guest_machine.specs.Flags.{KeepsFlags};
+ghost use Rattle.guest_rules.specs.Flags.{KeepsFlags};
 
 use block_device::Disk;
 use net_device::{Frame, NetDevice, Outbox};

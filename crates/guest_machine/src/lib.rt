@@ -19,12 +19,10 @@ mod hart;
 mod interrupts;
 mod kept_words;
 mod laps;
-mod laws;
 mod lending;
 mod limits;
 mod loads;
 mod machine;
-mod machine_state;
 mod op_steps;
 mod paces;
 mod page_ops;
@@ -33,7 +31,6 @@ mod prepared_words;
 mod quick_steps;
 mod ram;
 mod readers;
-mod shapes;
 mod slow_loads;
 mod snapshots;
 mod step;
@@ -43,19 +40,14 @@ mod stretches;
 pub use block_device::SECTOR_BYTES;
 pub use bus_map::RAM_BASE;
 pub use errors::MachineError;
-pub use laws::{
-    aligned_pc, beacon_breaks, beacon_loses, beacon_sends, branches_trap,
-    changed_sectors_are_listed, counted_steps, devices_apart, disk_refuses, disk_writes,
-    early_frames_are_lost, frames_arrive, kept_disk, kept_memory, read_only_csrs_trap, sent_frames,
-    timer_interrupts,
+pub use guest_rules::{
+    MachineState, Shape, changed_sectors_are_listed, devices_apart, kept_disk, kept_memory, sent_frames,
 };
 pub use limits::limits_are_the_rules;
 pub use machine::Machine;
-pub use machine_state::MachineState;
 pub use mtraps::CsrValues;
 pub use net_device::Frame;
 pub use paces::{Pace, Unpaced};
 pub use paged_memory::PAGE_BYTES;
-pub use shapes::Shape;
 pub use virtio_mmio::DeviceState;
 pub use virtqueue::Queue;

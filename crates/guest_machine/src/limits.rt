@@ -2,7 +2,7 @@
 ghost use Rattle.std.specs.Prelude.{◌≡◌};
 ghost use Rattle.virtqueue.specs.Limits.{ram_start};
 ghost use Rattle.bus_map.specs.Limits.{ram_base};
-ghost use Rattle.guest_machine.specs.Limits.{stepping_frames};
+ghost use Rattle.guest_rules.specs.Limits.{stepping_frames};
 ghost use Rattle.guest_machine.specs.declared.places.TheConstants.{RAM_BASE};
 ghost use Rattle.guest_machine.specs.declared.machine.TheConstants.{STEPPING_FRAMES};
 

@@ -3,7 +3,7 @@ ghost use Rattle.std.specs.Prelude.{◌≡◌, ℕ, List, ◌%◌, ◌==◌, tru
 ghost use Rattle.rv64_core.specs.Widths.{width_bytes};
 ghost use Rattle.guest_machine.specs.Parts.{Attached, guest_of};
 ghost use Rattle.guest_machine.specs.Leaves.{LeavesInterrupts};
-ghost use Rattle.guest_machine.specs.Step.{quiet, trapped, extended, timer_loaded, loaded_from, load_done};
+ghost use Rattle.guest_rules.specs.Step.{quiet, trapped, extended, timer_loaded, loaded_from, load_done};
 
 use crate::devices::Devices;
 use crate::hart::Hart;

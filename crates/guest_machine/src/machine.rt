@@ -2,11 +2,11 @@
 ghost use Rattle.std.specs.Prelude.{◌≡◌, ◌-◌, ◌*◌, ◌<◌, ◌≤◌, ◌↔◌, [], ◌++◌, false, length, replicate, IsErr, IfOk, OnOk, OnErr, Err};
 ghost use Rattle.memory_wanted.specs.Wanted.{wanted};
 ghost use Rattle.net_device.specs.Receive.{received};
-ghost use Rattle.guest_machine.specs.Flags.{KeepsFlags};
-ghost use Rattle.guest_machine.specs.Guest.{boot_guest};
-ghost use Rattle.guest_machine.specs.Limits.{page_bytes, stepping_frames};
-ghost use Rattle.guest_machine.specs.Runs.{after_steps, sent_in, marked_in, HaveRoom};
-ghost use Rattle.guest_machine.specs.Step.{next, sent, marked, arrived};
+ghost use Rattle.guest_rules.specs.Flags.{KeepsFlags};
+ghost use Rattle.guest_rules.specs.Guest.{boot_guest};
+ghost use Rattle.guest_rules.specs.Limits.{page_bytes, stepping_frames};
+ghost use Rattle.guest_rules.specs.Runs.{after_steps, sent_in, marked_in, HaveRoom};
+ghost use Rattle.guest_rules.specs.Step.{next, sent, marked, arrived};
 
 use crate::decoded_pages::DecodedPages;
 use crate::devices::Devices;
@@ -15,7 +15,7 @@ use crate::hart::Hart;
 use crate::laps::Looks;
 use crate::prepared_words::PreparedWords;
 use crate::ram::Ram;
-use crate::shapes::Shape;
+use guest_rules::Shape;
 use crate::step::run_step;
 use crate::stretches::run_stretch;
 use bus_map::RAM_BASE;
@@ -43,12 +43,12 @@ pub struct Machine {
 }
 
 impl Model for Machine {
-    ghost use Rattle.guest_machine.specs.Guest.{State};
+    ghost use Rattle.guest_rules.specs.Guest.{State};
     ghost use Rattle.guest_machine.specs.Parts.{guest_of, state_with};
 
     ghost Value = { State };
 
-    ghost use Rattle.guest_machine.specs.Aligned.{IsAligned};
+    ghost use Rattle.guest_rules.specs.Aligned.{IsAligned};
     ghost use Rattle.guest_machine.specs.PageOps.{AreDecoded};
 
     ghost view = { λ m. state_with m.hart m.ram.memory m.devices m.outbox };
@@ -63,7 +63,7 @@ impl Machine {
     ///
     /// # Errors
     /// `NoMemory` where memory is refused.
-    #[tactic(auto, unfolding(crate::specs::Guest::boot_guest))]
+    #[tactic(auto, unfolding(guest_rules::specs::Guest::boot_guest))]
     pub fn boot(alloc: Global, shape: Shape, image: &[u8]) -> Result<Machine, MachineError>
         requires { length image.now ≤ page_bytes * shape.pages }
         ensures guest { IfOk result (λ machine. machine.guest ≡ boot_guest shape.pages shape.sectors image.now) }
@@ -197,7 +197,7 @@ impl Machine {
     /// the chain is too short; where the queue or the chain is malformed, it is lost and the card needs a reset.
     ///
     /// It is no step, it sends nothing, and it takes no memory. The frame has at least 14 bytes, as the caller knows.
-    #[tactic(auto, unfolding(crate::specs::Step::arrived))]
+    #[tactic(auto, unfolding(guest_rules::specs::Step::arrived))]
     pub fn arrive(&mut self, frame: &Frame) -> bool
         requires long { 14 ≤ length frame.now.items }
         ensures guest { self.new.guest ≡ arrived self.old.guest frame.now }

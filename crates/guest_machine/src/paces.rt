@@ -1,9 +1,9 @@
 //! A run of the guest's steps that may be held at any of them.
 ghost use Rattle.std.specs.Prelude.{◌≡◌, ◌<◌, ◌≤◌, ◌++◌, length};
-ghost use Rattle.guest_machine.specs.Flags.{KeepsFlags};
-ghost use Rattle.guest_machine.specs.Limits.{stepping_frames};
+ghost use Rattle.guest_rules.specs.Flags.{KeepsFlags};
+ghost use Rattle.guest_rules.specs.Limits.{stepping_frames};
 ghost use Rattle.guest_machine.specs.Paces.{Lets, Holds};
-ghost use Rattle.guest_machine.specs.Runs.{after_steps, sent_in, marked_in, HaveRoom};
+ghost use Rattle.guest_rules.specs.Runs.{after_steps, sent_in, marked_in, HaveRoom};
 
 use crate::machine::{Machine, STEPPING_FRAMES};
 

@@ -3,7 +3,7 @@ ghost use Rattle.std.specs.Prelude.{◌≡◌, ◌+◌, ◌%◌, ◌≤◌, ◌^
 ghost use Rattle.rv64_core.specs.Widths.{width_bytes};
 ghost use Rattle.bus_map.specs.AddressMap.{place_of};
 ghost use Rattle.bus_map.specs.Limits.{ram_base};
-ghost use Rattle.guest_machine.specs.Places.{in_ram, ram_place};
+ghost use Rattle.guest_rules.specs.Places.{in_ram, ram_place};
 
 use bus_map::Place;
 use rv64_core::Width;

@@ -5,8 +5,8 @@ ghost use Rattle.mtraps.specs.CsrTable.{IsLegal};
 ghost use Rattle.virtio_mmio.specs.declared.kinds.DeviceKind.TheVariants.{Network};
 ghost use Rattle.virtio_mmio.specs.States.{IsDeviceRecord};
 ghost use Rattle.net_device.specs.Frames.{IsFrame};
-ghost use Rattle.guest_machine.specs.Guest.{sector_count, disk_kind};
-ghost use Rattle.guest_machine.specs.Limits.{page_bytes, most_pages};
+ghost use Rattle.guest_rules.specs.Guest.{sector_count, disk_kind};
+ghost use Rattle.guest_rules.specs.Limits.{page_bytes, most_pages};
 
 use crate::machine::Machine;
 use mtraps::CsrValues;

@@ -2,16 +2,16 @@
 ghost use Rattle.std.specs.Prelude.{◌≡◌, ◌+◌, ◌*◌, ◌<◌, ◌≤◌, ◌↔◌, false, true, length, replicate, All, IsTrue};
 ghost use Rattle.block_device.specs.Dirty.{Rises, with_written};
 ghost use Rattle.paged_memory.specs.Pages.{AreUnwritten, page_of, is_written, written_pages, marked};
-ghost use Rattle.guest_machine.specs.Blocks.{block_place, with_block, with_sector};
-ghost use Rattle.guest_machine.specs.Guest.{sector_count, sector_of};
-ghost use Rattle.guest_machine.specs.Limits.{page_bytes};
-ghost use Rattle.guest_machine.specs.MachineStates.{IsMachineState, state_of, with_state};
+ghost use Rattle.guest_rules.specs.Blocks.{block_place, with_block, with_sector};
+ghost use Rattle.guest_rules.specs.Guest.{sector_count, sector_of};
+ghost use Rattle.guest_rules.specs.Limits.{page_bytes};
+ghost use Rattle.guest_rules.specs.MachineStates.{IsMachineState, state_of, with_state};
 
 use crate::blocks::BLOCK_BYTES;
 use crate::hart::{Hart, registers_with};
 use crate::machine::Machine;
-use crate::machine_state::MachineState;
-use crate::shapes::Shape;
+use guest_rules::MachineState;
+use guest_rules::Shape;
 use block_device::SECTOR_BYTES;
 use mtraps::Csrs;
 use paged_memory::PAGE_BYTES;

@@ -1,9 +1,9 @@
 //! One step of the guest.
 ghost use Rattle.std.specs.Prelude.{◌≡◌, ◌+◌, ◌≤◌, ◌++◌, length};
 ghost use Rattle.rv64_core.specs.Rows.{decoded};
-ghost use Rattle.guest_machine.specs.Flags.{KeepsFlags};
+ghost use Rattle.guest_rules.specs.Flags.{KeepsFlags};
 ghost use Rattle.guest_machine.specs.Parts.{guest_of};
-ghost use Rattle.guest_machine.specs.Step.{planned, carried_out, instruction_done, next, sent, marked};
+ghost use Rattle.guest_rules.specs.Step.{planned, carried_out, instruction_done, next, sent, marked};
 
 use crate::csr_access::{ILLEGAL_INSTRUCTION, access_csr};
 use crate::devices::Devices;
@@ -25,7 +25,7 @@ const INSTRUCTION_BYTES: u64 = 4;
 /// One step: the interrupt that is due, or else the instruction at the pc, and then the step count. Sent frames go last into the
 /// outbox.
 #[inline]
-#[tactic(auto, unfolding(crate::specs::Step::step_done, crate::specs::Step::next, crate::specs::Step::sent, crate::specs::Step::marked))]
+#[tactic(auto, unfolding(guest_rules::specs::Step::step_done, guest_rules::specs::Step::next, guest_rules::specs::Step::sent, guest_rules::specs::Step::marked))]
 pub(crate) fn run_step(hart: &mut Hart, ram: &mut Ram, devices: &mut Devices, outbox: &mut Outbox)
     requires room { length outbox.old + 64 ≤ 256 }
     ensures guest { guest_of hart.new ram.new.memory.bytes devices.new ≡ next (guest_of hart.old ram.old.memory.bytes devices.old) }
@@ -43,7 +43,7 @@ pub(crate) fn run_step(hart: &mut Hart, ram: &mut Ram, devices: &mut Devices, ou
 
 /// The instruction at the pc, or its exception.
 #[inline]
-#[tactic(auto, unfolding(crate::specs::Step::instruction_done, crate::specs::Step::carried_out))]
+#[tactic(auto, unfolding(guest_rules::specs::Step::instruction_done, guest_rules::specs::Step::carried_out))]
 fn run_instruction(hart: &mut Hart, ram: &mut Ram, devices: &mut Devices, outbox: &mut Outbox)
     requires room { length outbox.old + 64 ≤ 256 }
     ensures guest { guest_of hart.new ram.new.memory.bytes devices.new ≡
@@ -85,7 +85,7 @@ pub(crate) fn plan_word(regs: &Regs, pc: u64, word: u32) -> Plan
 
 /// Does what the plan of the instruction `word` says.
 #[inline]
-#[tactic(auto, unfolding(crate::specs::Step::carried_out))]
+#[tactic(auto, unfolding(guest_rules::specs::Step::carried_out))]
 fn carry_out(
     hart: &mut Hart,
     ram: &mut Ram,

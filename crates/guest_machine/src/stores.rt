@@ -1,9 +1,9 @@
 //! Stores into memory and to the devices.
 ghost use Rattle.std.specs.Prelude.{◌≡◌, ℕ, List, ◌+◌, ◌≤◌, ◌++◌, length};
 ghost use Rattle.rv64_core.specs.Widths.{width_bytes};
-ghost use Rattle.guest_machine.specs.Flags.{KeepsFlags};
+ghost use Rattle.guest_rules.specs.Flags.{KeepsFlags};
 ghost use Rattle.guest_machine.specs.Parts.{Attached, guest_of};
-ghost use Rattle.guest_machine.specs.Step.{passed, timer_stored, store_done};
+ghost use Rattle.guest_rules.specs.Step.{passed, timer_stored, store_done};
 
 use crate::devices::Devices;
 use crate::hart::Hart;

@@ -5,8 +5,8 @@ use Rattle.std.proofs.lemmas.List.{append-nil, length-map, replicate-append-repl
 use Rattle.std.proofs.lemmas.List.Elements.{All-head, All-tail}
 use Rattle.std.proofs.Math.Seq.{take-length}
 use Rattle.std.specs.Prelude.{All}
-use Rattle.guest_machine.specs.Runs.{after_steps, sent_in}
-use Rattle.guest_machine.specs.Step.{sent}
+use Rattle.guest_rules.specs.Runs.{after_steps, sent_in}
+use Rattle.guest_rules.specs.Step.{sent}
 use Rattle.pair_history.specs.Entries.{Entry, Frame, Arrive, Ran}
 use Rattle.pair_history.specs.HistoryState.{HistoryState, Waiting, frame_numbered, without_number, with_arrived, at, after}
 use Rattle.pair_history.specs.HistoryState.{sent_along, sent_by, Legal}

@@ -9,7 +9,7 @@ use Rattle.backup_image.specs.Kept as images
 use Rattle.backup_image.specs.Limits.{number_limit}
 use Rattle.checkpoint_stream.specs.Readings.{Reading}
 use Rattle.epoch_snapshot.specs.Checkpoints.{Change, is_old_delta}
-use Rattle.guest_machine.specs.declared.shapes.Shape.{Shape}
+use Rattle.guest_rules.specs.declared.shapes.Shape.{Shape}
 use Rattle.growing_history.specs.LogState.{LegalSteps}
 use Rattle.growing_history.specs.Views.{Member}
 use Rattle.pair_history.specs.HistoryState.{HistoryState}

@@ -1,6 +1,6 @@
 -- The packet of a checkpoint that was cut has its text.
 use Rattle.std.proofs.Common.{◌≡◌, ℕ, [], length, replicate, ◌∙◌}
-use Rattle.guest_machine.specs.Guest.{Guest, State, sector_count}
+use Rattle.guest_rules.specs.Guest.{Guest, State, sector_count}
 use Rattle.epoch_snapshot.specs.{Bases.{IsBase, IsCheckpointOver}, Checkpoints.Change, Cuts.used_sectors, Images.image_of}
 use Rattle.checkpoint_stream.specs.{ReadBack.ReadsBack, Text.text}
 use Rattle.pair_book.specs.Packets.{PacketState}

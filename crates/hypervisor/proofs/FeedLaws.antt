@@ -9,7 +9,7 @@ use Rattle.checkpoint_stream.specs.declared.place.Place.TheVariants.{Whole}
 use Rattle.checkpoint_stream.specs.Readings.{Reading, begun, fed, is_whole, failure_at}
 use Rattle.checkpoint_stream.specs.Sound.{change_in}
 use Rattle.epoch_snapshot.specs.Checkpoints.{Change}
-use Rattle.guest_machine.specs.declared.shapes.Shape.{Shape}
+use Rattle.guest_rules.specs.declared.shapes.Shape.{Shape}
 use Rattle.backup_image.specs.Images.{ImageState}
 use Rattle.growing_history.specs.Views.{Member}
 use Rattle.pair_book.specs.Commits.{WasRead}

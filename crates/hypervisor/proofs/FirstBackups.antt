@@ -14,8 +14,8 @@ use Rattle.checkpoint_stream.specs.declared.errors.StreamError.{StreamError}
 use Rattle.checkpoint_stream.specs.declared.errors.StreamError.TheVariants.{Malformed, NoMemory}
 use Rattle.checkpoint_stream.specs.declared.place.Place.TheVariants.{Whole}
 use Rattle.epoch_snapshot.specs.Checkpoints.{Change}
-use Rattle.guest_machine.specs.Guest.{Guest}
-use Rattle.guest_machine.specs.declared.shapes.Shape.{Shape}
+use Rattle.guest_rules.specs.Guest.{Guest}
+use Rattle.guest_rules.specs.declared.shapes.Shape.{Shape}
 use Rattle.growing_history.specs.Steps.{Step, Begins, steps_by}
 use Rattle.growing_history.specs.LogState.{LegalSteps}
 use Rattle.growing_history.specs.Views.{Member}

@@ -2,8 +2,8 @@
 use Rattle.std.proofs.Common.{◌≡◌, ℕ, ◌*◌, List, [], ◌∷◌, ◌++◌, length, refl, sym, ap, ◌∙◌, subst, arith, None, Some}
 use Rattle.std.specs.List.{Contains}
 use Rattle.backup_image.specs.Images.{ImageState, empty_image, settled_machine}
-use Rattle.guest_machine.specs.declared.shapes.Shape.{Shape}
-use Rattle.guest_machine.specs.Guest.{Guest, State, boot_guest}
+use Rattle.guest_rules.specs.declared.shapes.Shape.{Shape}
+use Rattle.guest_rules.specs.Guest.{Guest, State, boot_guest}
 use Rattle.growing_history.specs.LogState.{first_runner, first_backup}
 use Rattle.growing_history.specs.Steps.{Protected, Step, step}
 use Rattle.growing_history.specs.Views.{Member}

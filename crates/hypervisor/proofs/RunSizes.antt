@@ -3,11 +3,11 @@
 use Rattle.std.proofs.Common.{rules, ◌≡◌, ℕ, zero, suc, ◌/◌, ◌<◌, Bool, true, false, List, [], ◌∷◌, length, refl, sym, ap, ◌∙◌}
 use Rattle.std.proofs.Common.{subst, arith}
 use Rattle.arrayvec.specs.ArrayVec.{ArrayVec}
-use Rattle.guest_machine.specs.Dirty.{is_in}
-use Rattle.guest_machine.specs.Guest.{Guest, HasDeviceRecords}
-use Rattle.guest_machine.specs.Guest as guest
-use Rattle.guest_machine.specs.Runs.{after_steps, marked_in}
-use Rattle.guest_machine.specs.Step.{next, arrived}
+use Rattle.guest_rules.specs.Dirty.{is_in}
+use Rattle.guest_rules.specs.Guest.{Guest, HasDeviceRecords}
+use Rattle.guest_rules.specs.Guest as guest
+use Rattle.guest_rules.specs.Runs.{after_steps, marked_in}
+use Rattle.guest_rules.specs.Step.{next, arrived}
 use Rattle.epoch_snapshot.specs.Bases.{IsBase}
 use Rattle.epoch_snapshot.specs.Cuts.{sector_of}
 use Rattle.pair_history.specs.Entries.{Frame}

@@ -5,8 +5,8 @@ use Rattle.std.proofs.Common.{Some}
 use Rattle.std.proofs.lemmas.List.{drop_all, length-drop, length-map}
 use Rattle.std.proofs.lemmas.List.Elements.{All-nil}
 use Rattle.std.specs.Prelude.{All}
-use Rattle.guest_machine.specs.Guest.{Guest}
-use Rattle.guest_machine.specs.Runs.{after_steps, sent_in}
+use Rattle.guest_rules.specs.Guest.{Guest}
+use Rattle.guest_rules.specs.Runs.{after_steps, sent_in}
 use Rattle.pair_history.specs.Entries.{Entry, Frame, Arrive}
 use Rattle.pair_history.specs.HistoryState.{HistoryState, at, sent_along, frame_numbered}
 use Rattle.pair_history.specs.HistoryState as history

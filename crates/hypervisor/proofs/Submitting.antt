@@ -5,8 +5,8 @@ use Rattle.std.proofs.lemmas.List.{append_cancel_right}
 use Rattle.std.specs.Prelude.{not, nat_le}
 use Rattle.std.specs.List.{Contains}
 use Rattle.frame_ports.specs.Ports.{PortsState}
-use Rattle.guest_machine.specs.Guest.{Guest, State}
-use Rattle.guest_machine.specs.Limits.{page_bytes}
+use Rattle.guest_rules.specs.Guest.{Guest, State}
+use Rattle.guest_rules.specs.Limits.{page_bytes}
 use Rattle.epoch_snapshot.specs.{Bases.IsBase, Checkpoints.Change}
 use Rattle.pair_history.specs.Entries.{Entry, Frame, Arrive}
 use Rattle.pair_history.specs.HistoryState.{HistoryState, at, sent_along}

@@ -1,6 +1,6 @@
 -- What was made for what is wanted is of the machine as it is.
 use Rattle.std.proofs.Common.{◌≡◌, ℕ, zero, suc, Bool, true, false, ◌&&◌, sym, subst, refl}
-use Rattle.guest_machine.specs.Guest.{State}
+use Rattle.guest_rules.specs.Guest.{State}
 use Rattle.pair_book.specs.Packets.{PacketState}
 use Rattle.pair_book.specs.declared.prepared.Prepared.{Prepared}
 use Rattle.pair_book.specs.declared.prepared.Prepared.TheVariants as prepared

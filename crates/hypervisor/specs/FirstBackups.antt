@@ -7,7 +7,7 @@ use Rattle.checkpoint_stream.specs.Text.{text}
 use Rattle.checkpoint_stream.specs.declared.errors.StreamError.{StreamError}
 use Rattle.checkpoint_stream.specs.declared.errors.StreamError.TheVariants.{Malformed, NoMemory}
 use Rattle.epoch_snapshot.specs.Checkpoints.{Change}
-use Rattle.guest_machine.specs.declared.shapes.Shape.{Shape}
+use Rattle.guest_rules.specs.declared.shapes.Shape.{Shape}
 use Rattle.growing_history.specs.FirstGeneration.{AreUnmarked}
 use Rattle.growing_history.specs.LogState.{first_backup, state_at}
 use Rattle.growing_history.specs.Steps.{Step, Begins}

@@ -3,8 +3,8 @@ use Rattle.std.specs.Prelude.{◌≡◌, ℕ, zero, suc, ◌+◌, List, [], ◌�
 use Rattle.atomic_table.specs.Seated.{TableId}
 use Rattle.backup_image.specs.Images.{ImageState, booted, settled_machine}
 use Rattle.growing_history.specs.Views.{Member}
-use Rattle.guest_machine.specs.declared.shapes.Shape.{Shape}
-use Rattle.guest_machine.specs.Guest.{Guest, State, boot_guest}
+use Rattle.guest_rules.specs.declared.shapes.Shape.{Shape}
+use Rattle.guest_rules.specs.Guest.{Guest, State, boot_guest}
 use Rattle.pair_book.specs.Books.{BookState, start_book}
 use Rattle.pair_book.specs.Opening.{Unnamed}
 use Rattle.pair_history.specs.HistoryState.{HistoryState, start_state}

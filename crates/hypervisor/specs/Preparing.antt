@@ -1,6 +1,6 @@
 -- What a runner prepares of its machine: no checkpoint, a delta or a full one, each as its text.
 use Rattle.std.specs.Prelude.{◌≡◌, ℕ, zero, suc, Bool, true, false, ◌&&◌, nat_le, nat_lt, [], length, replicate}
-use Rattle.guest_machine.specs.Guest.{Guest, State, sector_count}
+use Rattle.guest_rules.specs.Guest.{Guest, State, sector_count}
 use Rattle.epoch_snapshot.specs.Bases.{IsBase, IsCheckpointOver}
 use Rattle.epoch_snapshot.specs.Checkpoints.{Change}
 use Rattle.epoch_snapshot.specs.Cuts.{used_sectors}

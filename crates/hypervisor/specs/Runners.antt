@@ -2,7 +2,7 @@
 use Rattle.std.specs.Prelude.{◌≡◌, ℕ, ◌+◌, ◌<◌, ◌≤◌, List, [], length, All}
 use Rattle.frame_ports.specs.Addresses.{IsFrame}
 use Rattle.frame_ports.specs.Limits.{number_limit}
-use Rattle.guest_machine.specs.Guest.{Guest, State}
+use Rattle.guest_rules.specs.Guest.{Guest, State}
 use Rattle.epoch_snapshot.specs.Bases.{IsBase}
 use Rattle.growing_history.specs.Views.{Member}
 use Rattle.pair_history.specs.Entries.{Frame}

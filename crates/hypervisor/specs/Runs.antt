@@ -1,9 +1,9 @@
 -- A run: what the runner holds arrives at the guest, and then the guest makes steps until it is to stop.
 use Rattle.std.specs.Prelude.{◌≡◌, ℕ, ◌+◌, ◌-◌, min, List, [], ◌∷◌, ◌++◌, length, map}
 use Rattle.frame_ports.specs.Limits.{number_limit}
-use Rattle.guest_machine.specs.Guest.{Guest}
-use Rattle.guest_machine.specs.Runs.{after_steps, sent_in, marked_in, HaveRoom}
-use Rattle.guest_machine.specs.Step.{arrived}
+use Rattle.guest_rules.specs.Guest.{Guest}
+use Rattle.guest_rules.specs.Runs.{after_steps, sent_in, marked_in, HaveRoom}
+use Rattle.guest_rules.specs.Step.{arrived}
 use Rattle.pair_history.specs.Entries.{Frame}
 use Rattle.pair_book.specs.declared.prepared.Prepared.TheVariants as prepared
 use Rattle.hypervisor.specs.Runners.{RunnerState}

@@ -1,6 +1,6 @@
 -- A submit: which entries it adds, what its checkpoint makes, and what the runner is then.
 use Rattle.std.specs.Prelude.{◌≡◌, ℕ, ◌<◌, List, [], ◌++◌, length, replicate, false}
-use Rattle.guest_machine.specs.Guest.{Guest, State}
+use Rattle.guest_rules.specs.Guest.{Guest, State}
 use Rattle.pair_history.specs.Entries.{Entry, Frame}
 use Rattle.pair_history.specs.HistoryState.{HistoryState, at, sent_along}
 use Rattle.growing_history.specs.LogState.{LogState, state_at, sealed_state}

@@ -5,8 +5,8 @@ ghost use Rattle.checkpoint_stream.specs.ReadBack.{ReadsBack};
 ghost use Rattle.checkpoint_stream.specs.Text.{text};
 ghost use Rattle.frame_ports.specs.Addresses.{IsFrame};
 ghost use Rattle.frame_ports.specs.Limits.{number_limit};
-ghost use Rattle.guest_machine.specs.Guest.{HasDeviceRecords};
-ghost use Rattle.guest_machine.specs.Limits.{stepping_frames};
+ghost use Rattle.guest_rules.specs.Guest.{HasDeviceRecords};
+ghost use Rattle.guest_rules.specs.Limits.{stepping_frames};
 ghost use Rattle.guest_machine.specs.Paces.{Lets, Holds};
 ghost use Rattle.growing_history.specs.LogState.{LegalSteps, state_at};
 ghost use Rattle.pair_history.specs.Reached.{IsReached};
@@ -25,7 +25,8 @@ ghost use Rattle.hypervisor.specs.Submits.{Submits, BeginsEpoch};
 
 use crate::seats::keep_seat;
 use crate::shared::Shared;
-use epoch_snapshot::{Checkpoint, cut_delta, cut_full};
+use epoch_cuts::{cut_delta, cut_full};
+use epoch_snapshot::Checkpoint;
 use frame_ports::NUMBER_LIMIT;
 use growing_history::{Clock, Pair, RunnerSeat, steps_go_on, unmarked_histories_are_legal};
 use guest_machine::{

@@ -53,7 +53,7 @@ pub struct Warden<P: Pair> {
 }
 
 impl<P: Pair> Model for Warden<P> {
-    ghost use Rattle.guest_machine.specs.declared.shapes.Shape.{Shape};
+    ghost use Rattle.guest_rules.specs.declared.shapes.Shape.{Shape};
     ghost use Rattle.pair_book.specs.Made.{IsShape};
 
     ghost Value = { Shape };

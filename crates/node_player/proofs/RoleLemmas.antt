@@ -1,6 +1,6 @@
 -- What a node answers, by what it is.
 use Rattle.std.proofs.Common.{◌≡◌, ℕ, List, Option, Result, Ok, Err, IfOk, refl, ap, ◌∙◌}
-use Rattle.guest_machine.specs.declared.shapes.Shape.{Shape}
+use Rattle.guest_rules.specs.declared.shapes.Shape.{Shape}
 use Rattle.pair_record.specs.declared.event.Refusal.TheVariants.{AlreadyPaired}
 use Rattle.pair_nodes.specs.{Flagged.{Flagged, begun_primary}, PrimaryCalls.booted_primary}
 use Rattle.script_player.specs.{Boot.BootLine, Guests.guest_image, Printed.refusal_line}

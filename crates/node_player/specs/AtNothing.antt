@@ -1,6 +1,6 @@
 -- What a node that is nothing yet answers to each line, and what it is then: the first column of the table of docs/NODES.md.
 use Rattle.std.specs.Prelude.{◌≡◌, ℕ, List, [], ◌∷◌, codes, decimal}
-use Rattle.guest_machine.specs.declared.shapes.Shape.{Shape}
+use Rattle.guest_rules.specs.declared.shapes.Shape.{Shape}
 use Rattle.pair_record.specs.declared.event.Refusal.TheVariants.{NoImage}
 use Rattle.pair_nodes.specs.Flagged.{Flagged, begun_primary}
 use Rattle.pair_nodes.specs.PrimaryCalls.{booted_primary}

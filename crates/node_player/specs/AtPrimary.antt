@@ -2,7 +2,7 @@
 use Rattle.std.specs.Prelude.{◌≡◌, ℕ, if◌then◌else◌, List, [], ◌∷◌, length, Result, Ok, Err, codes, decimal}
 use Rattle.failover.specs.declared.mode.Mode.{Mode}
 use Rattle.failover.specs.declared.mode.Mode.TheVariants as modes
-use Rattle.guest_machine.specs.Flags.{KeepsFlags}
+use Rattle.guest_rules.specs.Flags.{KeepsFlags}
 use Rattle.pair_history.specs.Entries.{Frame}
 use Rattle.pair_core.specs.Lines.{packet}
 use Rattle.pair_record.specs.declared.event.Refusal.{Refusal}

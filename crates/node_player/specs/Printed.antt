@@ -3,7 +3,7 @@ use Rattle.std.specs.Prelude.{ℕ, ◌^◌, nat_lt, List, [], ◌∷◌, ◌++�
 use Rattle.std.specs.List.{flat_map}
 use Rattle.hex.specs.Hex.{encode_lower}
 use Rattle.pair_history.specs.Entries.{Frame}
-use Rattle.guest_machine.specs.Guest.{sector_in}
+use Rattle.guest_rules.specs.Guest.{sector_in}
 use Rattle.script_player.specs.{Printed.{line, sector_line}, Session.bad_answer}
 
 -- a frame that is let out

@@ -12,7 +12,7 @@ ghost use Rattle.script_player.specs.Session.{IsAnswered};
 
 use crate::printing::{refuse, tell, tell_number};
 use crate::role::Role;
-use guest_machine::SECTOR_BYTES;
+use guest_rules::SECTOR_BYTES;
 use memory_wanted::{MemoryWanted, resize, with_capacity};
 use pair_core::{Refusal, Shape};
 use pair_nodes::{PrimaryNode, StandbyNode};

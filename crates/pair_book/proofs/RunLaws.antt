@@ -5,7 +5,7 @@ use Rattle.std.proofs.lemmas.List.{take-append-drop}
 use Rattle.std.proofs.lemmas.List.Elements.{All-nil, All-cons, All-head, All-tail}
 use Rattle.std.specs.Prelude.{All}
 use Rattle.failover.specs.declared.mode.Mode.TheVariants.{Stopped}
-use Rattle.guest_machine.specs.Guest.{Guest}
+use Rattle.guest_rules.specs.Guest.{Guest}
 use Rattle.pair_history.specs.Entries.{Frame, Entry, DropIn}
 use Rattle.pair_history.specs.HistoryState.{HistoryState, at, sent_along, frame_numbered}
 use Rattle.pair_history.specs.Failures.{rising, arrived_numbers, go_live_entries}

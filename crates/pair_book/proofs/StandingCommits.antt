@@ -8,8 +8,8 @@ use Rattle.std.specs.Cmp.Lexicographic.{pointwise}
 use mathlib.Core.HLevel.{is_prop→PathP}
 use Rattle.failover.specs.declared.mode.Mode.{Mode}
 use Rattle.failover.specs.declared.mode.Mode.TheVariants.{Paired, Filling, Alone, Stopped}
-use Rattle.guest_machine.specs.declared.shapes.Shape.{Shape}
-use Rattle.guest_machine.specs.Guest.{Guest}
+use Rattle.guest_rules.specs.declared.shapes.Shape.{Shape}
+use Rattle.guest_rules.specs.Guest.{Guest}
 use Rattle.epoch_snapshot.specs.Checkpoints.{Change}
 use Rattle.epoch_snapshot.specs.Images.{image_of}
 use Rattle.checkpoint_stream.specs.ReadBack.{ReadsBack}

@@ -1,7 +1,7 @@
 -- What the first runner and the first backup know, before any step; and a new backup.
 use Rattle.std.proofs.Common.{◌≡◌, ℕ, ◌-◌, List, [], ◌∷◌, ◌++◌, length, drop, refl, sym, ap, ◌∙◌, subst, true≢false, arith}
 use Rattle.std.proofs.{Common.{None, Some}, lemmas.List.Elements.All-nil}
-use Rattle.guest_machine.specs.Guest.{Guest}
+use Rattle.guest_rules.specs.Guest.{Guest}
 use Rattle.pair_history.specs.Entries.{Frame}
 use Rattle.pair_history.specs.HistoryState.{HistoryState, sent_along, frame_numbered}
 use Rattle.growing_history.specs.Steps.{Protected, Step, step}

@@ -1,7 +1,7 @@
 -- What the backup's commits do, and why one is refused.
 use Rattle.std.specs.Prelude.{◌≡◌, ℕ, ◌+◌, ◌-◌, ◌≤◌, ◌==◌, ◌&&◌, not, nat_lt, nat_le, Bool, true, false, if◌then◌else◌, List, [], ◌∷◌, ◌++◌}
 use Rattle.std.specs.Prelude.{length, Option, None, Some}
-use Rattle.guest_machine.specs.Guest.{Guest}
+use Rattle.guest_rules.specs.Guest.{Guest}
 use Rattle.epoch_snapshot.specs.Checkpoints.{Change, is_old_delta}
 use Rattle.epoch_snapshot.specs.Images.{image_of}
 use Rattle.checkpoint_stream.specs.Readings.{begun, fed}

@@ -1,6 +1,6 @@
 -- What a runner has outside the lock, and what it brings, that was settled when its seat last looked.
 use Rattle.std.specs.Prelude.{◌≡◌, ℕ, ◌≤◌, List, [], ◌++◌, length, map, take, drop, replicate, All, Some}
-use Rattle.guest_machine.specs.Guest.{Guest}
+use Rattle.guest_rules.specs.Guest.{Guest}
 use Rattle.pair_history.specs.Entries.{Frame, Entry, Arrive, Ran}
 use Rattle.pair_history.specs.HistoryState.{HistoryState, at, sent_along, frame_numbered}
 use Rattle.growing_history.specs.LogState.{LogState, state_at, sealed_state}

@@ -1,6 +1,6 @@
 //! What a runner and a backup know of what they have outside the lock.
 ghost use Rattle.std.specs.Prelude.{◌≡◌, ℕ, List, [], ◌∷◌, ◌++◌, Option, None, Some};
-ghost use Rattle.guest_machine.specs.Guest.{Guest};
+ghost use Rattle.guest_rules.specs.Guest.{Guest};
 ghost use Rattle.pair_history.specs.Entries.{Frame};
 ghost use Rattle.pair_history.specs.HistoryState.{HistoryState};
 ghost use Rattle.growing_history.specs.LogState.{LegalSteps, first_runner, first_backup};

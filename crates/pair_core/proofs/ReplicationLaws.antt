@@ -2,7 +2,7 @@
 use Rattle.std.proofs.Common.{rules, ◌≡◌, ℕ, suc, ◌+◌, ◌-◌, ◌<◌, List, [], ◌∷◌, ◌++◌, length, refl, sym, ap, ◌∙◌, arith, false, Some}
 use Rattle.std.proofs.Common.{append_assoc}
 use Rattle.failover.specs.{declared.mode.Mode.Mode, declared.mode.Mode.TheVariants.{Filling, Alone}}
-use Rattle.guest_machine.specs.{declared.shapes.Shape.Shape, Guest.Guest}
+use Rattle.guest_rules.specs.{declared.shapes.Shape.Shape, Guest.Guest}
 use Rattle.backup_image.specs.Images.{empty_image}
 use Rattle.epoch_snapshot.specs.{Checkpoints.Change, Images.image_of}
 use Rattle.pair_history.specs.{Entries.Entry, HistoryState.{HistoryState, at, sent_along}}

@@ -1,7 +1,7 @@
 -- Along a run each guest to come keeps its place, until the checkpoint that makes it is committed.
 use Rattle.std.proofs.Common.{◌≡◌, ℕ, List, [], ◌∷◌, ◌++◌, length, refl, sym, ap, ◌∙◌, arith, Some}
 use Rattle.std.specs.Prelude.{slice_get}
-use Rattle.guest_machine.specs.Guest.{Guest}
+use Rattle.guest_rules.specs.Guest.{Guest}
 use Rattle.pair_record.specs.{declared.event.Event.Event, declared.event.Event.TheVariants.{Cut, BackupGet, Protect}}
 use Rattle.pair_record.specs.declared.event.Reply.{Reply}
 use Rattle.pair_core.specs.{Pair.Pair, Replication.{to_come, number_after, next_number, Awaits, Does, Leads}}

@@ -1,8 +1,8 @@
 -- What is kept true from event to event, so that what contracts say of a pair follows: the record accords with the history, and beside it
 -- what packets name, and what the machines, the image and the texts are. A part that an event doesn't touch passes on by name.
 use Rattle.std.specs.Prelude.{◌≡◌, ℕ, ◌+◌, ◌-◌, ◌<◌, ◌≤◌, Bool, true, false, List, [], ◌∷◌, ◌++◌, Some, None}
-use Rattle.guest_machine.specs.declared.shapes.Shape.{Shape}
-use Rattle.guest_machine.specs.Guest.{Guest}
+use Rattle.guest_rules.specs.declared.shapes.Shape.{Shape}
+use Rattle.guest_rules.specs.Guest.{Guest}
 use Rattle.epoch_snapshot.specs.Bases.{IsBase}
 use Rattle.frame_ports.specs.Limits.{number_limit}
 use Rattle.pair_history.specs.Moves.{Move, guest_along, frames_along}

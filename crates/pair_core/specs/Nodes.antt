@@ -1,10 +1,10 @@
 -- The two nodes: the primary's live machine, and at the backup the image and the texts of the checkpoints that it may still commit.
 use Rattle.std.specs.Prelude.{◌≡◌, ◌≢◌, ℕ, ◌*◌, None, List, [], ◌∷◌, ◌++◌, length}
-use Rattle.guest_machine.specs.declared.shapes.Shape.{Shape}
-use Rattle.guest_machine.specs.Guest.{Guest, State, HasDeviceRecords, boot_guest}
-use Rattle.guest_machine.specs.Limits.{page_bytes}
-use Rattle.guest_machine.specs.Step.{arrived}
-use Rattle.guest_machine.specs.Runs.{after_steps, sent_in, marked_in}
+use Rattle.guest_rules.specs.declared.shapes.Shape.{Shape}
+use Rattle.guest_rules.specs.Guest.{Guest, State, HasDeviceRecords, boot_guest}
+use Rattle.guest_rules.specs.Limits.{page_bytes}
+use Rattle.guest_rules.specs.Step.{arrived}
+use Rattle.guest_rules.specs.Runs.{after_steps, sent_in, marked_in}
 use Rattle.epoch_snapshot.specs.Checkpoints.{Change}
 use Rattle.epoch_snapshot.specs.Images.{image_of}
 use Rattle.checkpoint_stream.specs.Readings.{begun, fed}

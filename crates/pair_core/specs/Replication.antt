@@ -1,8 +1,8 @@
 -- Replication: the guests that the backup's image will be, one after another, and that each is the guest that the live machine was at a
 -- cut.
 use Rattle.std.specs.Prelude.{◌≡◌, ℕ, ◌+◌, ◌≤◌, false, List, [], ◌∷◌, ◌++◌, length, Option, None, Some, slice_get}
-use Rattle.guest_machine.specs.declared.shapes.Shape.{Shape}
-use Rattle.guest_machine.specs.Guest.{Guest}
+use Rattle.guest_rules.specs.declared.shapes.Shape.{Shape}
+use Rattle.guest_rules.specs.Guest.{Guest}
 use Rattle.epoch_snapshot.specs.Images.{image_of}
 use Rattle.pair_record.specs.declared.event.Event.{Event}
 use Rattle.pair_record.specs.declared.event.Event.TheVariants.{Cut, BackupGet, FailBackup, GoLive, Protect}

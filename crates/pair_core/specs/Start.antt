@@ -1,6 +1,6 @@
 -- What an operator is shown.
 use Rattle.std.specs.Prelude.{ℕ, List, length, Option, if◌then◌else◌}
-use Rattle.guest_machine.specs.Guest.{Guest, sector_in}
+use Rattle.guest_rules.specs.Guest.{Guest, sector_in}
 use Rattle.pair_history.specs.HistoryState.{HistoryState}
 use Rattle.pair_record.specs.declared.event.Show.{Show}
 use Rattle.pair_record.specs.Modes.{is_stopped}

@@ -1,6 +1,6 @@
 //! What follows from what events do, over whole runs: the backup's image after a commit is the guest of the machine at the cut.
 ghost use Rattle.std.specs.Prelude.{◌≡◌, ◌++◌, All, length, ℕ, List, Option, Some, slice_get};
-ghost use Rattle.guest_machine.specs.Guest.{Guest};
+ghost use Rattle.guest_rules.specs.Guest.{Guest};
 ghost use Rattle.pair_record.specs.declared.event.Event.{Event};
 ghost use Rattle.pair_record.specs.declared.event.Event.TheVariants.{Cut, BackupGet, Deliver, GoLive, Protect, Take};
 ghost use Rattle.pair_record.specs.declared.event.Refusal.TheVariants.{Full};

@@ -6,10 +6,10 @@
 ghost use Rattle.std.specs.Prelude.{◌≡◌, ◌+◌, ◌^◌, ◌≤◌, ◌<◌, ◌++◌, ◌∷◌, [], length, All, None, OnOk, OnErr, IfOk};
 ghost use Rattle.std.specs.Prelude.{option_map, ◌-◌, ◌*◌};
 ghost use Rattle.frame_ports.specs.Addresses.{IsFrame};
-ghost use Rattle.guest_machine.specs.Guest.{Guest, boot_guest, sector_in};
-ghost use Rattle.guest_machine.specs.Limits.{page_bytes};
-ghost use Rattle.guest_machine.specs.Step.{arrived};
-ghost use Rattle.guest_machine.specs.Runs.{HaveRoom, sent_in};
+ghost use Rattle.guest_rules.specs.Guest.{Guest, boot_guest, sector_in};
+ghost use Rattle.guest_rules.specs.Limits.{page_bytes};
+ghost use Rattle.guest_rules.specs.Step.{arrived};
+ghost use Rattle.guest_rules.specs.Runs.{HaveRoom, sent_in};
 ghost use Rattle.epoch_snapshot.specs.Bases.{IsBase};
 ghost use Rattle.checkpoint_stream.specs.Readings.{begun, fed};
 ghost use Rattle.checkpoint_stream.specs.declared.place.Place.TheVariants.{Whole};
@@ -21,7 +21,8 @@ ghost use Rattle.backup_image.specs.Images.{empty_image};
 
 use backup_image::{Image, ImageError, KeptFrames, Resumed};
 use checkpoint_stream::{Reader, StreamError, encode};
-use epoch_snapshot::{Checkpoint, cut_delta, cut_full};
+use epoch_cuts::{cut_delta, cut_full};
+use epoch_snapshot::Checkpoint;
 use guest_machine::{Machine, MachineError, SECTOR_BYTES, Shape, sent_frames};
 use memory_wanted::{MemoryWanted, reserve};
 use pair_history::Frame;

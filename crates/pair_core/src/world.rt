@@ -44,8 +44,8 @@ impl Model for World {
 
 impl World {
     ghost use Rattle.std.specs.Prelude.{option_map};
-    ghost use Rattle.guest_machine.specs.Guest.{sector_in};
-    ghost use Rattle.guest_machine.specs.Limits.{page_bytes};
+    ghost use Rattle.guest_rules.specs.Guest.{sector_in};
+    ghost use Rattle.guest_rules.specs.Limits.{page_bytes};
     ghost use Rattle.frame_ports.specs.Limits.{max_clients};
     ghost use Rattle.pair_history.specs.Entries.{Begins};
     ghost use Rattle.pair_history.specs.HistoryState.{start_state};

@@ -3,7 +3,7 @@ use Rattle.std.proofs.Common.{◌≡◌, ℕ, ◌+◌, ◌-◌, ◌*◌, ◌≤�
 use Rattle.std.proofs.{Common.{Bool, true, false, cond}, lemmas.List.{append-nil, length-append, length-map}}
 use Rattle.std.proofs.lemmas.List.Sorted.{length_permutation}
 use Rattle.std.specs.Prelude.{◌==◌, nat_lt}
-use Rattle.guest_machine.specs.Step.{next, sent}
+use Rattle.guest_rules.specs.Step.{next, sent}
 use Rattle.frame_ports.specs.{Addresses.targets_of, Lands.{list_of, has_room, landed_at, lands}, Limits.box_frames}
 use Rattle.frame_ports.specs.laws.Addresses.{length-targets_of}
 use Rattle.pair_history.specs.{Entries.{Frame, Entry, Ran, Arrive, DropIn, Land, DropOut}, HistoryState.{HistoryState, at, after, Legal}}

@@ -4,7 +4,7 @@ use Rattle.std.proofs.Common.{drop, remove, arith}
 use Rattle.std.proofs.lemmas.Bool.Decides.{nat_tests}
 use Rattle.std.proofs.lemmas.List.{length-append, length-set, length-take, length-drop}
 use Rattle.std.proofs.lemmas.List.Edits.{length-remove}
-use Rattle.guest_machine.specs.Step.{sent}
+use Rattle.guest_rules.specs.Step.{sent}
 use Rattle.frame_ports.specs.Addresses.{targets_of}
 use Rattle.frame_ports.specs.Lands.{list_of, with_list}
 use Rattle.frame_ports.specs.Limits.{box_frames}

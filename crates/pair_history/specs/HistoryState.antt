@@ -1,8 +1,8 @@
 -- What a history says of the guest and its clients: one guest that never fails behind a line that may drop frames.
 use Rattle.std.specs.Prelude.{◌≡◌, ℕ, zero, suc, ◌+◌, ◌-◌, ◌<◌, ◌≤◌, ◌==◌, nat_lt, if◌then◌else◌, List, [], ◌∷◌, ◌++◌, length, slice_get}
 use Rattle.std.specs.Prelude.{take, drop, remove, replicate, Option, None, Some}
-use Rattle.guest_machine.specs.Guest.{Guest, boot_guest}
-use Rattle.guest_machine.specs.Step.{next, sent, arrived}
+use Rattle.guest_rules.specs.Guest.{Guest, boot_guest}
+use Rattle.guest_rules.specs.Step.{next, sent, arrived}
 use Rattle.frame_ports.specs.Addresses.{IsFrame, targets_of}
 use Rattle.frame_ports.specs.Lands.{list_of, with_list}
 use Rattle.frame_ports.specs.Limits.{inbox_frames, box_frames}

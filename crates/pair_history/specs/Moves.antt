@@ -1,7 +1,7 @@
 -- The guest's own entries, each with the frame that arrives: what an epoch is made of.
 use Rattle.std.specs.Prelude.{◌≡◌, ℕ, List, [], ◌∷◌, ◌++◌, map, Some}
-use Rattle.guest_machine.specs.Guest.{Guest}
-use Rattle.guest_machine.specs.Step.{next, sent, arrived}
+use Rattle.guest_rules.specs.Guest.{Guest}
+use Rattle.guest_rules.specs.Step.{next, sent, arrived}
 use Rattle.pair_history.specs.Entries.{Frame, Entry, Ran, Arrive}
 use Rattle.pair_history.specs.HistoryState.{Waiting, frame_numbered, without_number, IsFirst}
 

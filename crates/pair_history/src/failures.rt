@@ -1,7 +1,7 @@
 //! What a failure does to the history: it stays that of one guest that never fails, behind a line that may drop frames.
 ghost use Rattle.std.specs.Prelude.{◌≡◌, ℕ, ◌+◌, ◌*◌, ◌≤◌, ◌++◌, List, [], ◌∷◌, length, map};
 ghost use Rattle.std.specs.List.Sorted.{IsNonDecreasing, IsPermutation, IsStrictlyIncreasing};
-ghost use Rattle.guest_machine.specs.Step.{next, sent};
+ghost use Rattle.guest_rules.specs.Step.{next, sent};
 ghost use Rattle.frame_ports.specs.Addresses.{targets_of};
 ghost use Rattle.frame_ports.specs.Lands.{lands};
 ghost use Rattle.pair_history.specs.Entries.{Frame, Entry, Ran, Arrive, DropIn, Land, DropOut};
@@ -14,7 +14,7 @@ ghost use Rattle.pair_history.specs.Reached.{IsReached};
 ghost use Rattle.pair_history.specs.Failures.{arrived_numbers, dropped_numbers, all_land};
 ghost use Rattle.pair_history.specs.Failures.{go_live_entries, fail_backup_entries, alone_step_entries};
 
-use guest_machine::sent_frames;
+use guest_rules::sent_frames;
 
 /// From where a pair starts, a legal history leads only to states in which the frames that wait have rising numbers below the next
 /// one, each frame on its way is for a client that there is, and no box holds more than it has room for.

@@ -2,7 +2,7 @@
 ghost use Rattle.std.specs.Prelude.{◌≡◌, ℕ, ◌+◌, ◌++◌, List, length};
 ghost use Rattle.std.specs.List.{filter, range_with_len};
 ghost use Rattle.std.specs.List.Sorted.{IsPermutation};
-ghost use Rattle.guest_machine.specs.Step.{sent};
+ghost use Rattle.guest_rules.specs.Step.{sent};
 ghost use Rattle.frame_ports.specs.Addresses.{addressed};
 ghost use Rattle.pair_history.specs.Entries.{Entry};
 ghost use Rattle.pair_history.specs.Failures.{arrived_numbers, dropped_numbers};

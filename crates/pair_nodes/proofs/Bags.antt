@@ -1,7 +1,7 @@
 -- The bag of messages: what was sent stays sent.
 use Rattle.std.proofs.Common.{◌≡◌, ℕ, zero, suc, ◌-◌, ◌≤◌, List, [], ◌∷◌, ◌++◌, length, refl, sym, ap, ◌∙◌, subst, arith, Bool, true, false, Some}
 use Rattle.std.specs.Prelude.{slice_get, not}
-use Rattle.guest_machine.specs.declared.shapes.Shape.{Shape}
+use Rattle.guest_rules.specs.declared.shapes.Shape.{Shape}
 use Rattle.pair_record.specs.declared.event.Packet.{Packet}
 use Rattle.failover.specs.declared.mode.{Mode.Mode, Mode.TheVariants.{Paired, Filling, Alone, Stopped}}
 use Rattle.pair_record.specs.{Modes.is_alone, Record.SuitsMode}

@@ -7,8 +7,8 @@ use Rattle.epoch_snapshot.specs.declared.changes.SectorChange.{SectorChange}
 use Rattle.checkpoint_stream.specs.Bounds.{IsBounded, most_text}
 use Rattle.checkpoint_stream.specs.Readings.{Reading}
 use Rattle.frame_ports.specs.Addresses.{IsFrame}
-use Rattle.guest_machine.specs.Dirty.{Rises}
-use Rattle.guest_machine.specs.declared.shapes.Shape.{Shape}
+use Rattle.guest_rules.specs.Dirty.{Rises}
+use Rattle.guest_rules.specs.declared.shapes.Shape.{Shape}
 use Rattle.output_gate.specs.Epochs.{frames_of}
 use Rattle.pair_history.specs.Entries.{Frame}
 use Rattle.pair_nodes.specs.Bounds.{IsBoundedPrimary, IsBoundedStandby, frame_bytes, primary_bytes, most_primary_bytes}

@@ -1,7 +1,7 @@
 -- What comes of a text, in whatever pieces, is the beginning of it; and where it is whole it reads as the text does.
 use Rattle.std.proofs.Common.{◌≡◌, ℕ, List, [], ◌++◌, refl, sym, ap, ◌∙◌, inl, inr, ⊎_elim, true}
 use Rattle.std.specs.Prelude.{◌⊎◌}
-use Rattle.guest_machine.specs.declared.shapes.Shape.{Shape}
+use Rattle.guest_rules.specs.declared.shapes.Shape.{Shape}
 use Rattle.checkpoint_stream.specs.{Sound.change_in, declared.place.Place.{TheVariants.Whole}}
 use Rattle.checkpoint_stream.specs.Readings.{Reading, begun, fed, is_closed}
 use Rattle.checkpoint_stream.specs.laws.Feeding.{fed-append, fed-closed}

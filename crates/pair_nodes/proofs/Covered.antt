@@ -2,7 +2,7 @@
 use Rattle.std.proofs.Common.{◌≡◌, ℕ, ◌+◌, ◌-◌, ◌<◌, ◌≤◌, List, [], ◌∷◌, ◌++◌, length, refl, sym, ap, ◌∙◌, subst, arith, append_assoc}
 use Rattle.std.proofs.{Common.{Bool, true, false, cond, Option, Some, None}, lemmas.List.append-nil, lemmas.Bool.Decides.nat_tests}
 use Rattle.std.specs.Prelude.{nat_le, nat_lt}
-use Rattle.guest_machine.specs.Runs.{sent_in}
+use Rattle.guest_rules.specs.Runs.{sent_in}
 use Rattle.epoch_snapshot.specs.Checkpoints.{Change}
 use Rattle.output_gate.specs.Epochs.{Epoch, frames_of, frames_to, after_number}
 use Rattle.output_gate.specs.laws.Epochs.{frames_to-append}

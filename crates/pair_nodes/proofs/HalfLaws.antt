@@ -7,7 +7,7 @@ use Rattle.epoch_snapshot.specs.Checkpoints.{Change}
 use Rattle.checkpoint_stream.specs.{Readings.is_whole, Sound.change_in, declared.place.Place.TheVariants.Whole}
 use Rattle.failover.specs.Generations.{generation_limit}
 use Rattle.frame_ports.specs.Limits.{number_limit}
-use Rattle.guest_machine.specs.Runs.{sent_in, HaveRoom}
+use Rattle.guest_rules.specs.Runs.{sent_in, HaveRoom}
 use Rattle.pair_history.specs.Entries.{Frame}
 use Rattle.pair_record.specs.declared.event.{Packet.Packet, Refusal.{Refusal}, Refusal.TheVariants.{CutNeeded, NotPaired, AlreadyPaired, Exhausted, Stale, NoImage}}
 use Rattle.pair_record.specs.{Limits.last_frame, Tables.first_refusal}

@@ -7,8 +7,8 @@ use Rattle.failover.specs.declared.mode.{Mode.TheVariants.Alone}
 use Rattle.frame_ports.specs.{Addresses.targets_of, Lands.lands, Ports.PortsState}
 use Rattle.frame_ports.specs.laws.Addresses.{targets_of-append}
 use Rattle.frame_ports.specs.laws.Lands.{lands-append, length-lands}
-use Rattle.guest_machine.specs.{Guest.Guest, Runs.{after_steps, sent_in, marked_in, HaveRoom}, Step.{next, sent}}
-use Rattle.guest_machine.proofs.SentLemmas.{few_sent}
+use Rattle.guest_rules.specs.{Guest.Guest, Runs.{after_steps, sent_in, marked_in, HaveRoom}, Step.{next, sent}}
+use Rattle.guest_rules.specs.laws.Sent.{few_sent}
 use Rattle.output_gate.specs.Landings.{ports_after}
 use Rattle.output_gate.specs.laws.Ports.{boxes_count-after, numbers_count-after}
 use Rattle.pair_history.specs.Entries.{Frame, Ran}

@@ -2,7 +2,7 @@
 use Rattle.std.proofs.Common.{◌≡◌, ℕ, ◌+◌, ◌-◌, ◌≤◌, List, [], ◌∷◌, ◌++◌, drop, refl, sym, ap, ◌∙◌, subst, arith, Some}
 use Rattle.std.specs.Prelude.{slice_get}
 use Rattle.epoch_snapshot.specs.Checkpoints.{Change}
-use Rattle.guest_machine.specs.declared.shapes.Shape.{Shape}
+use Rattle.guest_rules.specs.declared.shapes.Shape.{Shape}
 use Rattle.pair_record.specs.declared.event.Packet.{Packet}
 use Rattle.pair_core.specs.Lines.{packet}
 use Rattle.pair_nodes.specs.Matching.{HaveNames, IsNumbered}

@@ -3,7 +3,7 @@ use Rattle.std.proofs.Common.{◌≡◌, ℕ, zero, suc, ◌+◌, ◌-◌, ◌<�
 use Rattle.std.proofs.Common.{subst, arith, append_assoc, Bool, true, false, cond}
 use Rattle.std.proofs.lemmas.{Bool.Decides.nat_tests, List.{append-nil, take-append-drop}}
 use Rattle.std.specs.Prelude.{nat_le}
-use Rattle.guest_machine.specs.{Guest.Guest, Step.{sent}, Runs.sent_in}
+use Rattle.guest_rules.specs.{Guest.Guest, Step.{sent}, Runs.sent_in}
 use Rattle.frame_ports.specs.Lands.{has_room, landed_at}
 use Rattle.frame_ports.specs.Limits.{box_frames}
 use Rattle.output_gate.specs.Epochs.{Epoch, frames_of, frames_to, after_number}

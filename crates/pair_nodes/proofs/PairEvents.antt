@@ -3,7 +3,7 @@ use Rattle.std.proofs.Common.{◌≡◌, ℕ, ◌-◌, ◌<◌, ◌≤◌, List,
 use Rattle.std.proofs.Common.{inl, Option, Some, None}
 use Rattle.std.specs.Prelude.{slice_get, map}
 use Rattle.epoch_snapshot.specs.Bases.{IsBase}
-use Rattle.guest_machine.specs.Guest.{Guest}
+use Rattle.guest_rules.specs.Guest.{Guest}
 use Rattle.failover.specs.declared.mode.{Mode.Mode, Mode.TheVariants.{Paired, Filling, Alone, Stopped}}
 use Rattle.pair_record.specs.declared.event.{Event.Event, Event.TheVariants.{Cut, Send, BackupGet}, Reply.Reply}
 use Rattle.pair_record.specs.declared.event.{Packet.Packet, Refusal.Refusal}

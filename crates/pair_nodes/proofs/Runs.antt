@@ -6,7 +6,7 @@ use Rattle.std.proofs.lemmas.List.Elements.{All-nil, All-cons}
 use Rattle.std.specs.Prelude.{All}
 use Rattle.failover.specs.declared.mode.{Mode.Mode, Mode.TheVariants.{Paired, Filling, Alone, Stopped}}
 use Rattle.frame_ports.specs.{Limits.number_limit}
-use Rattle.guest_machine.specs.{declared.shapes.Shape.Shape}
+use Rattle.guest_rules.specs.{declared.shapes.Shape.Shape}
 use Rattle.pair_history.specs.{HistoryState.{HistoryState, at, start_state}}
 use Rattle.pair_record.specs.{Modes.{is_alone}}
 use Rattle.pair_core.specs.{Calls.ahead_of, Pair.{Pair, InMode, IsConsistent, shown_state}, Service.{HasServed, moment}}

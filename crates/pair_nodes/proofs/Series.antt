@@ -1,7 +1,7 @@
 -- The texts that a primary keeps, by their numbers.
 use Rattle.std.proofs.Common.{◌≡◌, ℕ, zero, suc, ◌+◌, ◌<◌, List, [], ◌∷◌, ◌++◌, length, drop, ap, ◌∙◌, subst, arith, Some}
 use Rattle.std.specs.Prelude.{slice_get, map}
-use Rattle.guest_machine.specs.{declared.shapes.Shape.Shape, Guest.Guest}
+use Rattle.guest_rules.specs.{declared.shapes.Shape.Shape, Guest.Guest}
 use Rattle.checkpoint_stream.specs.ReadBack.{ReadsBack}
 use Rattle.output_gate.specs.Epochs.{Epoch}
 use Rattle.pair_history.specs.Entries.{Frame}

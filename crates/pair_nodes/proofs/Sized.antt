@@ -1,9 +1,9 @@
 -- The guest keeps its shape.
 use Rattle.std.proofs.Common.{ℕ, ◌*◌, ◌≤◌, List, length}
-use Rattle.guest_machine.specs.declared.shapes.Shape.{Shape}
-use Rattle.guest_machine.specs.Guest.{Guest, boot_guest}
-use Rattle.guest_machine.specs.Runs.{after_steps}
-use Rattle.guest_machine.specs.Step.{arrived}
+use Rattle.guest_rules.specs.declared.shapes.Shape.{Shape}
+use Rattle.guest_rules.specs.Guest.{Guest, boot_guest}
+use Rattle.guest_rules.specs.Runs.{after_steps}
+use Rattle.guest_rules.specs.Step.{arrived}
 use Rattle.pair_history.specs.Entries.{Frame}
 use Rattle.pair_core.specs.Nodes.{HasShape}
 use Rattle.pair_core.specs.laws.Nodes.{shape-boot, shape-arrived, shape-after_steps}

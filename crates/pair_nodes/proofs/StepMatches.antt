@@ -1,6 +1,6 @@
 -- The guest's steps at a primary that has a standby are those of the pair.
 use Rattle.std.proofs.Common.{◌≡◌, ℕ, List, [], length, replicate, refl, sym, subst, arith, false, inl}
-use Rattle.guest_machine.specs.Runs.{after_steps, HaveRoom}
+use Rattle.guest_rules.specs.Runs.{after_steps, HaveRoom}
 use Rattle.pair_history.specs.Entries.{Ran}
 use Rattle.pair_record.specs.declared.event.{Packet.Packet, Event.TheVariants.Step}
 use Rattle.pair_record.specs.declared.event.Reply.TheVariants as replies

@@ -5,8 +5,8 @@ use Rattle.std.specs.List.{sum_by}
 use Rattle.checkpoint_stream.specs.Bounds.{IsBounded, most_text}
 use Rattle.checkpoint_stream.specs.Readings.{Reading}
 use Rattle.frame_ports.specs.Addresses.{IsFrame}
-use Rattle.guest_machine.specs.Limits.{page_bytes}
-use Rattle.guest_machine.specs.declared.shapes.Shape.{Shape}
+use Rattle.guest_rules.specs.Limits.{page_bytes}
+use Rattle.guest_rules.specs.declared.shapes.Shape.{Shape}
 use Rattle.output_gate.specs.Epochs.{frames_of}
 use Rattle.pair_history.specs.Entries.{Frame}
 use Rattle.pair_nodes.specs.Sides.{Primary, Standby}

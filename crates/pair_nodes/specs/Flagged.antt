@@ -3,7 +3,7 @@
 -- full checkpoint and where a primary begins; from then on none is taken away, and a page without one is as it was. What may happen at two
 -- nodes says nothing of them.
 use Rattle.std.specs.Prelude.{ℕ, Bool, false, List, length, replicate}
-use Rattle.guest_machine.specs.Pages.{written_pages}
+use Rattle.guest_rules.specs.Pages.{written_pages}
 use Rattle.pair_nodes.specs.Sides.{Primary}
 
 pub record Flagged : Type 0 where

@@ -1,7 +1,7 @@
 -- How two nodes stand to a pair: what is known of a pair of values between its events, what of it is at which node, and that what happens
 -- at the nodes is a run of the pair. The pair, and its history, exist in proofs alone.
 use Rattle.std.specs.Prelude.{◌≡◌, ◌⊎◌, ℕ, ◌+◌, ◌-◌, ◌≤◌, ◌<◌, not, List, [], ◌∷◌, length, drop, Some, slice_get}
-use Rattle.guest_machine.specs.declared.shapes.Shape.{Shape}
+use Rattle.guest_rules.specs.declared.shapes.Shape.{Shape}
 use Rattle.epoch_snapshot.specs.Checkpoints.{Change}
 use Rattle.checkpoint_stream.specs.{ReadBack.ReadsBack, Readings.{begun, fed}}
 use Rattle.frame_ports.specs.Limits.{number_limit}

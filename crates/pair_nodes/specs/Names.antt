@@ -1,6 +1,6 @@
 -- The name of a checkpoint's text: the generation and the number that it bears.
 use Rattle.std.specs.Prelude.{◌≡◌, ℕ, List}
-use Rattle.guest_machine.specs.declared.shapes.Shape.{Shape}
+use Rattle.guest_rules.specs.declared.shapes.Shape.{Shape}
 use Rattle.pair_record.specs.declared.event.Packet.{Packet}
 use Rattle.pair_core.specs.Lines.{packet}
 use Rattle.pair_core.specs.Nodes.{read_as}

@@ -4,10 +4,10 @@ use Rattle.std.specs.Prelude.{List, [], ◌∷◌, length, take, drop, slice_get
 use Rattle.failover.specs.Generations.{generation_limit}
 use Rattle.failover.specs.declared.mode.Mode.{Mode}
 use Rattle.failover.specs.declared.mode.Mode.TheVariants as modes
-use Rattle.guest_machine.specs.Guest.{boot_guest}
-use Rattle.guest_machine.specs.Limits.{stepping_frames}
-use Rattle.guest_machine.specs.Runs.{HaveRoom}
-use Rattle.guest_machine.specs.declared.shapes.Shape.{Shape}
+use Rattle.guest_rules.specs.Guest.{boot_guest}
+use Rattle.guest_rules.specs.Limits.{stepping_frames}
+use Rattle.guest_rules.specs.Runs.{HaveRoom}
+use Rattle.guest_rules.specs.declared.shapes.Shape.{Shape}
 use Rattle.output_gate.specs.Epochs.{Epoch}
 use Rattle.pair_record.specs.ClientActs.{is_bad_length}
 use Rattle.pair_record.specs.Limits.{last_frame, first_frame}

@@ -5,7 +5,7 @@ use Rattle.failover.specs.declared.mode.Mode.{Mode}
 use Rattle.failover.specs.declared.mode.Mode.TheVariants.{Paired, Stopped}
 use Rattle.frame_ports.specs.Addresses.{targets_of}
 use Rattle.frame_ports.specs.Lands.{list_of}
-use Rattle.guest_machine.specs.Runs.{sent_in}
+use Rattle.guest_rules.specs.Runs.{sent_in}
 use Rattle.output_gate.specs.Epochs.{frames_of}
 use Rattle.pair_history.specs.Entries.{Frame}
 use Rattle.pair_record.specs.declared.event.Event.{Event}

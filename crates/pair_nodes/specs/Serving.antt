@@ -3,10 +3,10 @@
 use Rattle.std.specs.Prelude.{◌≡◌, ◌⊎◌, ℕ, ◌*◌, ◌≤◌, ◌<◌, ◌++◌, true, false, List, [], length}
 use Rattle.failover.specs.declared.mode.Mode.{Mode}
 use Rattle.failover.specs.declared.mode.Mode.TheVariants.{Paired, Alone, Stopped}
-use Rattle.guest_machine.specs.declared.shapes.Shape.{Shape}
+use Rattle.guest_rules.specs.declared.shapes.Shape.{Shape}
 use Rattle.frame_ports.specs.Limits.{number_limit}
-use Rattle.guest_machine.specs.Guest.{Guest, boot_guest}
-use Rattle.guest_machine.specs.Limits.{page_bytes}
+use Rattle.guest_rules.specs.Guest.{Guest, boot_guest}
+use Rattle.guest_rules.specs.Limits.{page_bytes}
 use Rattle.backup_image.specs.Images.{booted}
 use Rattle.checkpoint_stream.specs.Readings.{begun}
 use Rattle.pair_history.specs.Entries.{Begins}

@@ -2,10 +2,10 @@
 -- image. What each of their calls leaves.
 use Rattle.std.specs.Prelude.{◌≡◌, ◌≤◌, if◌then◌else◌, ℕ, ◌+◌, ◌-◌, ◌==◌, not, nat_le, nat_lt, Bool, true, false, List, [], ◌∷◌, ◌++◌, length, None}
 use Rattle.std.specs.Prelude.{drop}
-use Rattle.guest_machine.specs.declared.shapes.Shape.{Shape}
-use Rattle.guest_machine.specs.Guest.{Guest}
-use Rattle.guest_machine.specs.Runs.{after_steps, sent_in, marked_in}
-use Rattle.guest_machine.specs.Step.{arrived}
+use Rattle.guest_rules.specs.declared.shapes.Shape.{Shape}
+use Rattle.guest_rules.specs.Guest.{Guest}
+use Rattle.guest_rules.specs.Runs.{after_steps, sent_in, marked_in}
+use Rattle.guest_rules.specs.Step.{arrived}
 use Rattle.epoch_snapshot.specs.Bases.{IsBase}
 use Rattle.checkpoint_stream.specs.Readings.{Reading, begun, fed}
 use Rattle.epoch_snapshot.specs.Checkpoints.{Change}

@@ -8,7 +8,7 @@ use Rattle.failover.specs.declared.mode.Mode.TheVariants as modes
 use Rattle.frame_ports.specs.Addresses.{IsFrame}
 use Rattle.frame_ports.specs.Lands.{list_of}
 use Rattle.frame_ports.specs.Limits.{inbox_frames, number_limit}
-use Rattle.guest_machine.specs.Runs.{sent_in, HaveRoom}
+use Rattle.guest_rules.specs.Runs.{sent_in, HaveRoom}
 use Rattle.output_gate.specs.Epochs.{frames_to}
 use Rattle.pair_history.specs.Entries.{Frame}
 use Rattle.pair_record.specs.Limits.{last_frame}

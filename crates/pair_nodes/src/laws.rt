@@ -4,7 +4,7 @@ ghost use Rattle.checkpoint_stream.specs.Readings.{begun, fed};
 ghost use Rattle.checkpoint_stream.specs.Sound.{change_in};
 ghost use Rattle.checkpoint_stream.specs.declared.place.Place.TheVariants.{Whole};
 ghost use Rattle.frame_ports.specs.Limits.{number_limit};
-ghost use Rattle.guest_machine.specs.declared.shapes.Shape.{Shape};
+ghost use Rattle.guest_rules.specs.declared.shapes.Shape.{Shape};
 ghost use Rattle.pair_core.specs.Nodes.{read_as};
 ghost use Rattle.pair_core.specs.Pair.{Pair};
 ghost use Rattle.pair_history.specs.Entries.{Frame};

@@ -2,9 +2,9 @@
 ghost use Rattle.std.specs.Prelude.{◌≡◌, ◌≤◌, ◌+◌, ◌*◌, [], All, IfOk, true, false, length, option_map, vec_capacity};
 ghost use Rattle.frame_ports.specs.Addresses.{IsFrame};
 ghost use Rattle.frame_ports.specs.Limits.{number_limit};
-ghost use Rattle.guest_machine.specs.Guest.{sector_in};
-ghost use Rattle.guest_machine.specs.Limits.{page_bytes};
-ghost use Rattle.guest_machine.specs.Pages.{is_written, page_of};
+ghost use Rattle.guest_rules.specs.Guest.{sector_in};
+ghost use Rattle.guest_rules.specs.Limits.{page_bytes};
+ghost use Rattle.guest_rules.specs.Pages.{is_written, page_of};
 ghost use Rattle.output_gate.specs.Epochs.{frames_of};
 ghost use Rattle.pair_record.specs.Limits.{most_pending};
 ghost use Rattle.pair_record.specs.Modes.{is_alone};

@@ -4,7 +4,7 @@ ghost use Rattle.checkpoint_stream.specs.Answers.{FeedAnswers};
 ghost use Rattle.backup_image.specs.Kept.{sent_with};
 ghost use Rattle.failover.specs.Generations.{generation_limit};
 ghost use Rattle.frame_ports.specs.Limits.{number_limit};
-ghost use Rattle.guest_machine.specs.Guest.{HasDeviceRecords, sector_in};
+ghost use Rattle.guest_rules.specs.Guest.{HasDeviceRecords, sector_in};
 ghost use Rattle.pair_record.specs.Limits.{most_pending};
 ghost use Rattle.pair_nodes.specs.Bounds.{IsBoundedStandby, standby_bytes, most_standby_bytes};
 ghost use Rattle.pair_nodes.specs.Flagged.{begun_primary};

@@ -1,7 +1,7 @@
 -- How a record and the clients' ports stand to the history, between any two calls: the history is one of a guest that never fails, and
 -- what is kept goes on from it. No machine stands in it; whoever holds machines says beside it what they are.
 use Rattle.std.specs.Prelude.{◌≡◌, ℕ, ◌≤◌, List, [], ◌∷◌, ◌++◌, length, map}
-use Rattle.guest_machine.specs.Guest.{Guest}
+use Rattle.guest_rules.specs.Guest.{Guest}
 use Rattle.frame_ports.specs.Addresses.{targets_of}
 use Rattle.frame_ports.specs.Lands.{list_of}
 use Rattle.frame_ports.specs.Ports.{PortsState}

@@ -3,7 +3,7 @@
 -- refusals; else it is done. What it looks at beside the record is a `Sight`, and the history says what that is. Which packet an event
 -- gets, and where packets go that an answer says were sent, whoever holds lines says.
 use Rattle.std.specs.Prelude.{List, ◌++◌, Option}
-use Rattle.guest_machine.specs.Step.{next, sent}
+use Rattle.guest_rules.specs.Step.{next, sent}
 use Rattle.pair_history.specs.Entries.{Frame}
 use Rattle.pair_history.specs.HistoryState.{HistoryState, at, inbox_of, sent_along}
 use Rattle.pair_record.specs.declared.event.Event.{Event}

@@ -1,6 +1,6 @@
 -- What is printed of a file that is run in threads, and the exit status (docs/SCRIPTS.md, "A pair in threads").
 use Rattle.std.specs.Prelude.{◌≡◌, ◌≢◌, ℕ, ◌+◌, ◌⊎◌, Bool, true, false, List, [], length, codes}
-use Rattle.guest_machine.specs.Guest.{boot_guest}
+use Rattle.guest_rules.specs.Guest.{boot_guest}
 use Rattle.pair_history.specs.HistoryState.{HistoryState}
 use Rattle.growing_history.specs.Steps.{Step}
 use Rattle.growing_history.specs.LogState.{LogState, LegalSteps, state_at, history_of}

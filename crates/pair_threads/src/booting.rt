@@ -1,6 +1,6 @@
 //! The pair of a file, booted.
 ghost use Rattle.std.specs.Prelude.{◌≡◌, IfOk};
-ghost use Rattle.guest_machine.specs.Guest.{boot_guest};
+ghost use Rattle.guest_rules.specs.Guest.{boot_guest};
 ghost use Rattle.script_player.specs.Boot.{IsInLimits, boot_line};
 ghost use Rattle.script_player.specs.Guests.{guest_image, named_guest};
 

@@ -1,9 +1,9 @@
 -- What is true of each image, by the parts that it keeps.
 use Rattle.std.specs.Prelude.{◌≡◌, ℕ, ◌*◌, ◌^◌, ◌<◌, List, [], length, map, Option, Some, None, Ok}
 use Rattle.frame_list.specs.Listed.{Listed}
-use Rattle.guest_machine.specs.declared.shapes.Shape.{Shape}
-use Rattle.guest_machine.specs.Guest.{State, boot_guest}
-use Rattle.guest_machine.specs.Limits.{page_bytes}
+use Rattle.guest_rules.specs.declared.shapes.Shape.{Shape}
+use Rattle.guest_rules.specs.Guest.{State, boot_guest}
+use Rattle.guest_rules.specs.Limits.{page_bytes}
 use Rattle.epoch_snapshot.specs.Checkpoints.{Change}
 use Rattle.backup_image.specs.declared.standing.Standing.{Standing}
 use Rattle.backup_image.specs.declared.standing.Staged.TheVariants.{New}

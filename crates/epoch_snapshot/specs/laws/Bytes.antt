@@ -3,7 +3,7 @@ use Rattle.std.proofs.Common.{◌≡◌, ℕ, ◌+◌, ◌≤◌, List, ◌++◌
 use Rattle.std.proofs.lemmas.List.{length-take-le, length-drop}
 use Rattle.std.proofs.Common.{suc, [], ◌∷◌, refl, sym, ap}
 use Rattle.epoch_snapshot.specs.Blocks.{xored}
-use Rattle.guest_machine.specs.Bytes.{with_bytes}
+use Rattle.guest_rules.specs.Bytes.{with_bytes}
 
 pub length-with_bytes : (xs new : List ℕ) (at : ℕ) → at + length new ≤ length xs → length (with_bytes xs at new) ≡ length xs
 length-with_bytes xs new at fits =

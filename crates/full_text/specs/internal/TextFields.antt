@@ -1,7 +1,7 @@
 -- How the fields of a machine with texts stand for what contracts see: a text that is made in part is seen whole, before
 -- the others.
 use Rattle.std.specs.Prelude.{◌≤◌, ℕ, List, ◌∷◌, Option, None, Some, length, map, vec_capacity}
-use Rattle.guest_machine.specs.Guest.{State}
+use Rattle.guest_rules.specs.Guest.{State}
 use Rattle.full_text.specs.Full.{AreIn, Making, whole}
 use Rattle.full_text.specs.MachineTexts.{Texts, most_texts}
 use Rattle.full_text.specs.declared.machine_texts.MachineTexts.TheInside.{Inside}

@@ -1,6 +1,6 @@
 -- What a sealed text makes, by equal guests and frames; and texts that were sealed rightly, one step on.
 use Rattle.std.proofs.Common.{◌≡◌, ℕ, zero, suc, List, [], ◌∷◌, ◌++◌, subst}
-use Rattle.guest_machine.specs.Guest.{Guest}
+use Rattle.guest_rules.specs.Guest.{Guest}
 use Rattle.pair_history.specs.Entries.{Frame}
 use Rattle.pair_history.specs.HistoryState.{HistoryState}
 use Rattle.growing_history.specs.Steps.{Step}

@@ -1,6 +1,6 @@
 -- How the fields of the nodes stand for what contracts see.
 use Rattle.std.specs.Prelude.{◌≡◌, ◌-◌, [], map, vec_len, vec_capacity, Option, None, Some}
-use Rattle.guest_machine.specs.declared.shapes.Shape.{Shape}
+use Rattle.guest_rules.specs.declared.shapes.Shape.{Shape}
 use Rattle.backup_image.specs.Images.{ImageState, empty_image}
 use Rattle.pair_core.specs.declared.nodes.Nodes.TheInside.{Inside}
 use Rattle.pair_core.specs.Nodes.{Housed, node_of}

@@ -2,7 +2,7 @@
 use Rattle.std.proofs.Common.{arith, ◌≡◌, ℕ, zero, suc, ◌<◌, ◌≤◌, ◌⊎◌, List, [], ◌∷◌, length, refl, ap, inl, inr, Bool, true, false}
 use Rattle.std.proofs.{Common.{Bor, Option, None, Some}, lemmas.Bool.Decides.nat_tests}
 use Rattle.std.specs.Prelude.{◌^◌, ◌||◌, ◌&&◌, nat_le, nat_lt, not, slice_get, option_map}
-use Rattle.guest_machine.specs.Guest.{Guest}
+use Rattle.guest_rules.specs.Guest.{Guest}
 use Rattle.frame_ports.specs.{Lands.list_of}
 use Rattle.pair_history.specs.{Entries.{Frame, Entry}, HistoryState.{HistoryState, inbox_of}}
 use Rattle.memory_wanted.specs.Wanted.{wanted}

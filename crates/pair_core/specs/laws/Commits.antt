@@ -3,7 +3,7 @@ use Rattle.std.proofs.Common.{rules, ◌≡◌, ℕ, zero, suc, ◌+◌, ◌-◌
 use Rattle.std.proofs.Common.{◌++◌, refl, sym, ap, ◌∙◌, subst, arith, append_assoc, Bool}
 use Rattle.std.proofs.{Common.{true, false, cond, Some, None, Result, Ok, Err}, lemmas.Bool.{eq-eqb, lt-ltb}, lemmas.Bool.Decides.nat_tests}
 use Rattle.std.specs.Prelude.{nat_lt, not, ◌==◌, ◌&&◌}
-use Rattle.guest_machine.specs.Guest.{Guest}
+use Rattle.guest_rules.specs.Guest.{Guest}
 use Rattle.epoch_snapshot.specs.{Bases.IsBase, Checkpoints.Change, Images.image_of}
 use Rattle.backup_image.specs.declared.errors.ImageError.{ImageError}
 use Rattle.backup_image.specs.declared.errors.ImageError.TheVariants.{Stale, Gap, OldVersion, Exhausted}

@@ -4,7 +4,7 @@ use Rattle.std.proofs.Common.{subst, inl, inr}
 use Rattle.std.proofs.{Common.append_assoc, lemmas.Bool.cases_lt, lemmas.List.length-map, lemmas.List.Elements.{All-nil, All-cons}}
 use Rattle.std.specs.Prelude.{map, All}
 use Rattle.failover.specs.declared.mode.{Mode.Mode, Mode.TheVariants.{Filling, Alone}}
-use Rattle.guest_machine.specs.{declared.shapes.Shape.Shape, Guest.Guest}
+use Rattle.guest_rules.specs.{declared.shapes.Shape.Shape, Guest.Guest}
 use Rattle.frame_ports.specs.Addresses.{targets_of}
 use Rattle.output_gate.specs.Epochs.{frames_of}
 use Rattle.pair_history.specs.{Entries.{Frame, Entry, Ran, Arrive}, HistoryState.{HistoryState, at}}

@@ -3,7 +3,7 @@ use Rattle.std.proofs.Common.{◌≡◌, ℕ, List, [], ◌∷◌, ◌++◌, sym
 use Rattle.std.proofs.{Common.{subst, arith, ◌<◌, length}, lemmas.Bool.Decides.nat_tests}
 use Rattle.std.proofs.{lemmas.List.append_cancel_left, lemmas.List.Elements.{All-nil}}
 use Rattle.std.specs.Prelude.{map, slice_get, get_or, All}
-use Rattle.guest_machine.specs.Step.{sent}
+use Rattle.guest_rules.specs.Step.{sent}
 use Rattle.frame_ports.specs.Lands.{list_of}
 use Rattle.pair_history.specs.Entries.{Frame, Entry, Arrive, DropOut, Took}
 use Rattle.pair_history.specs.{HistoryState.HistoryState, Landings.{DropsAtFull, DropsNone}}

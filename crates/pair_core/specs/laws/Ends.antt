@@ -3,7 +3,7 @@
 use Rattle.std.proofs.Common.{length, ◌≡◌, ℕ, List, [], ◌∷◌, ◌++◌, refl, sym, ap, ◌∙◌, subst, append_assoc, Bool, true, false, cond, Option, None}
 use Rattle.std.proofs.{Common.{Some, inl, inr, Bor}, lemmas.List.append-nil}
 use Rattle.std.specs.Prelude.{slice_get, nat_lt, option_map}
-use Rattle.guest_machine.specs.Step.{next, sent}
+use Rattle.guest_rules.specs.Step.{next, sent}
 use Rattle.frame_ports.specs.Lands.{list_of}
 use Rattle.pair_history.specs.{Entries.{Frame, Entry, Arrive, Delivered, DropIn, DropOut, Took}, HistoryState.{HistoryState, inbox_of}}
 use Rattle.pair_history.specs.Landings.{landings}

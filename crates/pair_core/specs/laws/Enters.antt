@@ -2,7 +2,7 @@
 use Rattle.std.proofs.Common.{◌≡◌, ℕ, List, [], ◌∷◌, ◌++◌, refl, ap, ◌∙◌, Bool, true, false, cond, inl, inr}
 use Rattle.std.proofs.{lemmas.List.append-nil, lemmas.List.Elements.{All-nil, All-cons, All-head, All-tail, filter-append}}
 use Rattle.std.specs.{Prelude.All}
-use Rattle.guest_machine.specs.Step.{next, sent}
+use Rattle.guest_rules.specs.Step.{next, sent}
 use Rattle.frame_ports.specs.{Lands.{has_room, landed_at}, Limits.box_frames}
 use Rattle.pair_history.specs.{Entries.{Frame, Entry, Ran, Arrive, Land, DropOut}, HistoryState.HistoryState, Landings.landings}
 use Rattle.pair_record.specs.{declared.event.Event.Event, declared.event.Event.TheVariants.{Step, Admit}}
@@ -10,7 +10,7 @@ use Rattle.pair_record.specs.declared.event.Refusal.{Refusal}
 use Rattle.pair_record.specs.{Journal.{first_of, kept_entries, with_moves}, Modes.is_alone}
 use Rattle.pair_record.specs.Protocol.{Record, live_at, shown_at, outbox_of, step_entries, all_held, let_go, live_entries}
 use Rattle.pair_core.specs.Pair.{is_of_guest}
-use Rattle.guest_machine.specs.Guest.{Guest}
+use Rattle.guest_rules.specs.Guest.{Guest}
 use Rattle.pair_core.specs.{Calls.Moment, Service.{Enters, guest_entries}}
 use Rattle.pair_core.specs.Lines.{Lines}
 use Rattle.pair_core.specs.laws.{Ends.{Ends, at_once}, Tells.{OfGuest, first_of-guest, live_all}}

@@ -3,7 +3,7 @@ use Rattle.std.proofs.Common.{rules, ◌≡◌, ℕ, ◌+◌, ◌*◌, ◌<◌, 
 use Rattle.std.proofs.{Common.{append_assoc, Bool, false, Some}, lemmas.List.{append-nil, length-map}}
 use Rattle.std.specs.Prelude.{slice_get}
 use Rattle.failover.specs.declared.mode.Mode.{Mode}
-use Rattle.guest_machine.specs.{declared.shapes.Shape.Shape, Guest.Guest}
+use Rattle.guest_rules.specs.{declared.shapes.Shape.Shape, Guest.Guest}
 use Rattle.epoch_snapshot.specs.{Bases.IsBase, Checkpoints.Change}
 use Rattle.frame_ports.specs.{Lands.list_of, Ports.{PortsState, empty_ports}}
 use Rattle.pair_history.specs.{Entries.{Frame, Entry}, HistoryState.{start_state}}

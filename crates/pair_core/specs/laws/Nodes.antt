@@ -3,10 +3,10 @@ use Rattle.std.proofs.Common.{rules, ◌≡◌, ℕ, zero, suc, ◌+◌, ◌-◌
 use Rattle.std.proofs.{Common.{◌∙◌, subst, arith, Bool, true, false}, Math.Bridge.le_prop}
 use Rattle.std.proofs.lemmas.List.{append-nil, length-append, length-replicate}
 use Rattle.std.specs.Prelude.{slice_range}
-use Rattle.guest_machine.specs.{Dirty.is_in, declared.shapes.Shape.Shape, Guest.{Guest, State, boot_guest}, Step.{next, sent, arrived}}
-use Rattle.guest_machine.specs.{Limits.most_pages, Runs.{after_steps, marked_in, sent_in}}
-use Rattle.guest_machine.proofs.{ApartLemmas.arrived-apart, ListedLemmas.run-listed}
-use Rattle.guest_machine.proofs.MemoryLemmas.{boot-kept, next-kept, arrived-kept, next-disk_bytes}
+use Rattle.guest_rules.specs.{Dirty.is_in, declared.shapes.Shape.Shape, Guest.{Guest, State, boot_guest}, Step.{next, sent, arrived}}
+use Rattle.guest_rules.specs.{Limits.most_pages, Runs.{after_steps, marked_in, sent_in}}
+use Rattle.guest_rules.specs.laws.{Apart.arrived-apart, Listed.run-listed}
+use Rattle.guest_rules.specs.laws.Kept.{boot-kept, next-kept, arrived-kept, next-disk_bytes}
 use Rattle.epoch_snapshot.specs.{Bases.{IsBase, IsCheckpointOver}, Checkpoints.Change, Cuts.sector_of, Images.image_of}
 use Rattle.checkpoint_stream.specs.{declared.place.Place.TheVariants.Whole, ReadBack.ReadsBack, Readings.{begun, fed}, Sound.change_in}
 use Rattle.pair_history.specs.Entries.{Frame}

@@ -2,7 +2,7 @@
 use Rattle.std.proofs.Common.{rules, ◌≡◌, ℕ, ◌≤◌, List, [], ◌∷◌, length, refl, sym, ap, ◌∙◌, subst, arith, Bool, true, false, Option, None, Some, ◌⊎◌, inl, inr}
 use Rattle.std.specs.Prelude.{slice_get, IfSome, IsSome, nat_le, not, ⊤}
 use Rattle.memory_wanted.specs.declared.MemoryWanted.{MemoryWanted}
-use Rattle.guest_machine.specs.Step.{next, sent}
+use Rattle.guest_rules.specs.Step.{next, sent}
 use Rattle.frame_ports.specs.{Lands.list_of, Limits.{inbox_frames, number_limit}}
 use Rattle.pair_history.specs.{Entries.Frame, HistoryState.inbox_of}
 use Rattle.pair_record.specs.{declared.event.Event.{Event, TheVariants.{Cut, Admit, FailBackup}}, declared.event.Refusal.Refusal}

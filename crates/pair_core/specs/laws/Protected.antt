@@ -1,6 +1,6 @@
 -- Where a node that is alone gets a new backup: an empty epoch is sealed, whose text is the full checkpoint.
 use Rattle.std.proofs.Common.{◌≡◌, ℕ, ◌+◌, ◌<◌, List, [], ◌∷◌, ◌++◌, map, false, refl, sym, ap, ◌∙◌, subst, arith}
-use Rattle.guest_machine.specs.Guest.{Guest}
+use Rattle.guest_rules.specs.Guest.{Guest}
 use Rattle.epoch_snapshot.specs.{Bases.IsBase, Images.image_of}
 use Rattle.std.proofs.Math.Path.{transport}
 use Rattle.frame_ports.specs.{Limits.number_limit, Numbers.renumbered}

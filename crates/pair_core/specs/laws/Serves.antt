@@ -3,7 +3,7 @@ use Rattle.std.proofs.Common.{◌≡◌, List, [], ◌∷◌, ◌++◌, refl, sy
 use Rattle.std.proofs.lemmas.List.{append-nil, append_cancel_left}
 use Rattle.std.proofs.lemmas.List.Elements.{All-head, All-tail}
 use Rattle.std.specs.Prelude.{All}
-use Rattle.guest_machine.specs.Guest.{Guest}
+use Rattle.guest_rules.specs.Guest.{Guest}
 use Rattle.pair_history.specs.{Entries.{Entry, Begins}, HistoryState.{HistoryState, after, at, Legal}}
 use Rattle.pair_history.specs.laws.Histories.{at-append, Legal-append}
 use Rattle.memory_wanted.specs.Wanted.{wanted}

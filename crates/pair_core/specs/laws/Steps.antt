@@ -3,7 +3,7 @@ use Rattle.std.proofs.Common.{rules, ◌≡◌, ℕ, zero, suc, ◌+◌, ◌<◌
 use Rattle.std.proofs.Common.{arith, append_assoc, Bool, true, false, cond, Option, None, Some, Result, Ok, Err, OnErr}
 use Rattle.std.proofs.{lemmas.Bool.{le-ltb, Decides.nat_tests}, lemmas.List.{append-nil, length-append, length-replicate}}
 use Rattle.std.specs.Prelude.{nat_lt, ◌&&◌}
-use Rattle.guest_machine.specs.{Guest.Guest, Step.{next, sent}, Runs.{after_steps, sent_in, marked_in, HaveRoom}}
+use Rattle.guest_rules.specs.{Guest.Guest, Step.{next, sent}, Runs.{after_steps, sent_in, marked_in, HaveRoom}}
 use Rattle.frame_ports.specs.Limits.{number_limit}
 use Rattle.pair_history.specs.{Entries.{Frame, Ran}, HistoryState.HistoryState}
 use Rattle.pair_history.specs.Moves.{Steps, guest_along, frames_along}

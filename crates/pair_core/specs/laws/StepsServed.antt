@@ -4,7 +4,7 @@ use Rattle.std.proofs.Common.{subst, append_assoc, Bool, true, false, None, inl,
 use Rattle.std.proofs.lemmas.List.{append-nil, length-append, replicate-append-replicate}
 use Rattle.std.proofs.lemmas.List.Elements.{All-nil, All-cons, All-append}
 use Rattle.std.specs.Prelude.{All}
-use Rattle.guest_machine.specs.{Guest.Guest, Step.{next, sent}}
+use Rattle.guest_rules.specs.{Guest.Guest, Step.{next, sent}}
 use Rattle.frame_ports.specs.{Addresses.targets_of, Lands.lands}
 use Rattle.output_gate.specs.Epochs.{frames_of}
 use Rattle.pair_history.specs.{Entries.{Ran}, HistoryState.{HistoryState, after, at, Legal}}

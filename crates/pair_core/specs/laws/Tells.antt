@@ -2,7 +2,7 @@
 use Rattle.std.proofs.Common.{rules, arith, ◌≡◌, ℕ, List, [], ◌∷◌, ◌++◌, refl, subst, append_assoc, Bool, true, false, cond}
 use Rattle.std.proofs.lemmas.List.Elements.{All-nil, All-cons, All-head, All-tail, All-append}
 use Rattle.std.specs.Prelude.{All, map, get_or}
-use Rattle.guest_machine.specs.Step.{sent}
+use Rattle.guest_rules.specs.Step.{sent}
 use Rattle.frame_ports.specs.{Lands.{has_room, landed_at}, Limits.box_frames}
 use Rattle.pair_history.specs.Entries.{Frame, Entry, Ran, Arrive, DropIn, Land, DropOut}
 use Rattle.pair_history.specs.Failures.{arrived_numbers, drops_of_taken_in, rising}

@@ -6,7 +6,7 @@ use Rattle.std.specs.Prelude.{All, ◌==◌, remove}
 use Rattle.pair_history.specs.{Entries.{Frame, Entry, Ran, Land, DropOut}, HistoryState.{HistoryState, after, at, out_of}, Leaving.Way}
 use Rattle.pair_history.specs.Leaving.{leaves_by, leaving, frames_left, LeaveInOrder, NotGivenUp, in_way, Landed, AtFull}
 use Rattle.pair_history.specs.{Landings.{DropsAreKnown, landings, BoxesFit}, Released.{sent_for, sent_to, IsFresh}, Reached.AllClients}
-use Rattle.guest_machine.specs.Step.{sent}
+use Rattle.guest_rules.specs.Step.{sent}
 use Rattle.frame_ports.specs.{Addresses.targets_of, Lands.{list_of, has_room, landed_at}, Limits.box_frames}
 use Rattle.pair_history.specs.laws.{ClientLists.out_of-without, Landings.{one_lands, BoxesFit-at, BoxesFit-landed_at}}
 use Rattle.frame_ports.specs.laws.Lands.{length-landed_at}

@@ -1,8 +1,8 @@
 -- Laws of what epochs keep. What a client does changes places with it: it is the state behind the moves alone that the moves
 -- say (`at-moves`), and what is delivered in between only waits behind (`AllCan-more`, `left-more`).
 use Rattle.std.proofs.Common.{◌≡◌, ℕ, zero, suc, ◌≤◌, List, [], ◌∷◌, ◌++◌, length, replicate, refl, sym, ap, ◌∙◌, arith, append_assoc}
-use Rattle.guest_machine.specs.Guest.{Guest}
-use Rattle.guest_machine.specs.Step.{sent}
+use Rattle.guest_rules.specs.Guest.{Guest}
+use Rattle.guest_rules.specs.Step.{sent}
 use Rattle.frame_ports.specs.Addresses.{targets_of}
 use Rattle.pair_history.specs.Entries.{Ran, Arrive}
 use Rattle.pair_history.specs.HistoryState.{HistoryState, Waiting, inbox_of, with_arrived, without_number, at, after, Legal}

@@ -13,7 +13,7 @@ ghost use Rattle.pair_nodes.specs.Lending.{IsAsItWas};
 use super::{LAST_FRAME, PrimaryNode, few_frames};
 use crate::texts::MOST_PENDING;
 use checkpoint_stream::encode;
-use epoch_snapshot::cut_delta;
+use epoch_cuts::cut_delta;
 use memory_wanted::MemoryWanted;
 use pair_core::Refusal;
 

@@ -1,6 +1,6 @@
 //! What a primary's guest does: frames arrive at it, and it makes steps.
 ghost use Rattle.std.specs.Prelude.{◌≡◌, ◌≤◌, ◌+◌, IfErr, OnErr, OnOk, length};
-ghost use Rattle.guest_machine.specs.Flags.{KeepsFlags};
+ghost use Rattle.guest_rules.specs.Flags.{KeepsFlags};
 ghost use Rattle.pair_record.specs.Limits.{last_frame};
 ghost use Rattle.pair_nodes.specs.PrimaryCalls.{arrive_rows, IsRun, IsSteps};
 ghost use Rattle.pair_nodes.specs.Refusing.{IsFree, IsWhy};

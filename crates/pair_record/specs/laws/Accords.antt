@@ -4,7 +4,7 @@ use Rattle.std.proofs.Common.{replicate, refl, sym, ap, ◌∙◌, subst, arith,
 use Rattle.std.proofs.{lemmas.Bool.{eq-eqb, ne_eqb}, lemmas.Bool.Decides.{eqb_tells}, lemmas.List.{append-nil, length-map}}
 use Rattle.std.proofs.lemmas.List.{length-replicate, length-set, map-append, get_or-set_same, get_or-set_other, take-append-drop}
 use Rattle.std.specs.Prelude.{map, slice_get, ◌==◌}
-use Rattle.guest_machine.specs.Guest.{Guest}
+use Rattle.guest_rules.specs.Guest.{Guest}
 use Rattle.frame_ports.specs.{Addresses.targets_of, Lands.{list_of, with_list}, Ports.{PortsState, empty_ports}}
 use Rattle.failover.specs.declared.mode.Mode.{Mode}
 use Rattle.output_gate.specs.{Epochs.{Epoch, frames_of}, laws.Epochs.frames_of-append}

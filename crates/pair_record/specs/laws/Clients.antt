@@ -3,7 +3,7 @@ use Rattle.std.proofs.Common.{◌≡◌, ℕ, ◌+◌, ◌-◌, ◌<◌, ◌≤�
 use Rattle.std.proofs.{Common.{true, cond, Some, inl}, lemmas.Bool.{eq-eqb, lt-ltb}, lemmas.List.Edits.length-remove}
 use Rattle.std.proofs.lemmas.List.{append-nil, length-set}
 use Rattle.std.specs.Prelude.{slice_get, nat_lt, ◌==◌}
-use Rattle.guest_machine.specs.Guest.{Guest}
+use Rattle.guest_rules.specs.Guest.{Guest}
 use Rattle.frame_ports.specs.{Addresses.{IsFrame, targets_of}, Lands.{list_of, with_list, lands}, Ports.{PortsState, after_delivery}}
 use Rattle.frame_ports.specs.Limits.{inbox_frames, box_frames}
 use Rattle.output_gate.specs.Epochs.{Epoch, frames_to, frames_of}

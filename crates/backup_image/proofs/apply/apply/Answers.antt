@@ -1,6 +1,6 @@
 -- What the parts make is the image.
 use Rattle.std.proofs.{Common.{◌≡◌, false, length, ap, ◌∙◌}, lemmas.List.length-replicate}
-use Rattle.guest_machine.specs.Guest.{Guest, State}
+use Rattle.guest_rules.specs.Guest.{Guest, State}
 use Rattle.epoch_snapshot.specs.{Blocks.block_numbers, Images.with_blocks}
 use Rattle.backup_image.proofs.PutLemmas.{image-made}
 use Rattle.backup_image.proofs.apply.apply.Goals as goal

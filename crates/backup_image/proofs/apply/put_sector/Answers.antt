@@ -1,6 +1,6 @@
 -- A sector has as many bytes as the one in whose place it is put.
 use Rattle.std.proofs.Common.{◌≡◌, ◌*◌, length, ap, ◌∙◌, arith}
-use Rattle.guest_machine.specs.Guest.{State}
+use Rattle.guest_rules.specs.Guest.{State}
 use Rattle.epoch_snapshot.specs.laws.Bytes.{length-with_bytes}
 use Rattle.backup_image.proofs.apply.put_sector.Goals as goal
 

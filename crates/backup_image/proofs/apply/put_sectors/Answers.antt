@@ -1,6 +1,6 @@
 -- One sector more.
 use Rattle.std.proofs.Common.{[], arith}
-use Rattle.guest_machine.specs.Guest.{sector_count}
+use Rattle.guest_rules.specs.Guest.{sector_count}
 use Rattle.epoch_snapshot.specs.declared.changes.SectorChange.{SectorChange}
 use Rattle.backup_image.proofs.{RisingLemmas.rising-below, PutLemmas.{sectors-begin, sectors-put, sectors-done}}
 use Rattle.backup_image.proofs.apply.put_sectors.Goals as goal

@@ -1,6 +1,6 @@
 use Rattle.std.proofs.Common.{ℕ, List, [], sym, ap, subst, ◌∙◌, ◌≡◌}
-use Rattle.guest_machine.specs.Guest.{Guest, State, HasDeviceRecords, boot_guest}
-use Rattle.guest_machine.specs.Runs.{after_steps, sent_in, marked_in}
+use Rattle.guest_rules.specs.Guest.{Guest, State, HasDeviceRecords, boot_guest}
+use Rattle.guest_rules.specs.Runs.{after_steps, sent_in, marked_in}
 use Rattle.pair_history.specs.{Entries.Frame, HistoryState.HistoryState}
 use Rattle.pair_book.specs.Settled.{Runs, settled_runner}
 use Rattle.book_tests.specs.Machines.{IsLike}

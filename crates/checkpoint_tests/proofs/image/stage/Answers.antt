@@ -1,6 +1,6 @@
 -- Shapes that compare equal are the same.
 use Rattle.std.proofs.{Common.{◌≡◌, ℕ, ◌≤◌, ◌==◌, true, sym, ◌∙◌, subst}, Math.Bridge.le_prop, lemmas.Bool.{and_parts, eqb-true}}
-use Rattle.guest_machine.specs.{declared.shapes.Shape.Shape, Limits.most_pages}
+use Rattle.guest_rules.specs.{declared.shapes.Shape.Shape, Limits.most_pages}
 use Rattle.checkpoint_tests.proofs.image.stage.Goals as goal
 
 -- the shape of these numbers, which are in range

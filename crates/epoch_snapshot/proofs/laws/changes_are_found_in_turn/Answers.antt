@@ -1,4 +1,4 @@
-use Rattle.epoch_snapshot.proofs.{PageLemmas.changed_pages-next, SectorLemmas.used-next}
+use Rattle.epoch_snapshot.specs.laws.{Pages.changed_pages-next, Sectors.used-next}
 use Rattle.epoch_snapshot.proofs.laws.changes_are_found_in_turn.Goals as goal
 
 pub returns-clause-pages : goal.returns-clause-pages

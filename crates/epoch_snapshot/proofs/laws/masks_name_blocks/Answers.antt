@@ -1,6 +1,6 @@
 use Rattle.std.proofs.Common.{◌==◌, arith}
 use Rattle.std.specs.Int.{bit_at}
-use Rattle.epoch_snapshot.proofs.{MaskLemmas.length-set_blocks, PageLemmas.{filter_last, fewer_blocks}}
+use Rattle.epoch_snapshot.specs.laws.{Masks.length-set_blocks, Pages.{filter_last, fewer_blocks}}
 use Rattle.epoch_snapshot.proofs.laws.masks_name_blocks.Goals as goal
 
 pub returns-clause-next : goal.returns-clause-next

@@ -1,4 +1,5 @@
-use Rattle.epoch_snapshot.proofs.{FullLemmas.own-blocks, PageLemmas.block_in-page}
+use Rattle.epoch_snapshot.specs.laws.Pages.{block_in-page}
+use Rattle.epoch_snapshot.proofs.FullLemmas.{own-blocks}
 use Rattle.epoch_snapshot.proofs.laws.pages_are_their_blocks.Goals as goal
 
 pub returns-clause-page : goal.returns-clause-page

@@ -3,7 +3,7 @@ use Rattle.std.proofs.Common.{◌≡◌, ◌+◌, ◌*◌, ◌≤◌, ℕ, Bool,
 use Rattle.std.specs.Prelude.{◌↔◌, IsTrue}
 use Rattle.std.specs.Simd.Lanes.{mask_l}
 use Rattle.epoch_snapshot.specs.Blocks.{IsPageIn, block_in, block_differs}
-use Rattle.guest_machine.specs.Pages.{page_of}
+use Rattle.guest_rules.specs.Pages.{page_of}
 use Rattle.full_text.specs.Full.{zeros}
 use Rattle.full_text.proofs.RecordLemmas.{length-block}
 use Rattle.full_text.proofs.ZeroBlocks.{block-flag, mask-next, mask-next-fits, mask-whole, used_flags}

@@ -1,5 +1,5 @@
 use Rattle.std.proofs.Common.{subst}
-use Rattle.guest_machine.specs.Guest.{State}
+use Rattle.guest_rules.specs.Guest.{State}
 use Rattle.book_tests.specs.Machines.{Repeats}
 use Rattle.book_tests.proofs.Repeats.{full-repeats}
 use Rattle.book_tests.proofs.prepared.SettledMachine.full.Goals as goal

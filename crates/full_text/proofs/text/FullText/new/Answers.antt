@@ -1,10 +1,10 @@
 -- Head, count, records and sectors are the text of the machine's full checkpoint.
 use Rattle.std.proofs.Common.{◌≡◌, ℕ, ◌*◌, ◌^◌, ◌<◌, ◌≤◌, ◌++◌, List, length, refl, sym, ap, ◌∙◌, subst, arith, All}
-use Rattle.guest_machine.specs.Dirty.{Rises}
-use Rattle.guest_machine.specs.Guest.{State, sector_count}
-use Rattle.guest_machine.specs.MachineStates.{IsMachineState, state_of, with_state}
-use Rattle.guest_machine.specs.declared.machine_state.MachineState.{MachineState}
-use Rattle.guest_machine.specs.declared.shapes.Shape.{Shape}
+use Rattle.guest_rules.specs.Dirty.{Rises}
+use Rattle.guest_rules.specs.Guest.{State, sector_count}
+use Rattle.guest_rules.specs.MachineStates.{IsMachineState, state_of, with_state}
+use Rattle.guest_rules.specs.declared.machine_state.MachineState.{MachineState}
+use Rattle.guest_rules.specs.declared.shapes.Shape.{Shape}
 use Rattle.epoch_snapshot.specs.declared.changes.PageChange.{PageChange}
 use Rattle.epoch_snapshot.specs.Bases.{IsFullCut}
 use Rattle.epoch_snapshot.specs.Checkpoints.{Change, IsCanonical}

@@ -1,6 +1,6 @@
 use Rattle.std.proofs.Common.{◌%◌, ap, ◌∙◌}
 use Rattle.mtraps.specs.declared.values.CsrValues.{CsrValues}
-use Rattle.guest_machine.proofs.AlignedLemmas.{legal_aligned}
+use Rattle.guest_rules.specs.laws.Aligned.{legal_aligned}
 use Rattle.guest_machine.proofs.machine.Machine.put_state.Goals as goal
 
 pub invariant_of-self : goal.invariant_of-self

@@ -1,10 +1,10 @@
 use Rattle.std.proofs.Common.{◌<◌, ◌≤◌, ℕ, List, length, refl, subst, sym, inl, inr, arith}
 use Rattle.std.proofs.lemmas.Bool.{cases_eq}
 use Rattle.arrayvec.specs.ArrayVec.{ArrayVec}
-use Rattle.guest_machine.specs.Guest.{State}
+use Rattle.guest_rules.specs.Guest.{State}
 use Rattle.guest_machine.proofs.FlagLemmas.{keeps_same, keeps_on}
 use Rattle.guest_machine.proofs.PaceLemmas.{run_then_run, not_asked, held, let_more}
-use Rattle.guest_machine.proofs.RunLemmas.{IsRun, no_run}
+use Rattle.guest_rules.specs.laws.Runs.{IsRun, no_run}
 use Rattle.guest_machine.proofs.machine.Machine.run_paced.Goals as goal
 
 pub loop-made-init : goal.loop-made-init

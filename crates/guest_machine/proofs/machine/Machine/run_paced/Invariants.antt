@@ -1,7 +1,7 @@
 use Rattle.std.proofs.Common.{◌≡◌, ◌-◌, ◌≤◌}
-use Rattle.guest_machine.specs.Flags.{KeepsFlags}
+use Rattle.guest_rules.specs.Flags.{KeepsFlags}
 use Rattle.guest_machine.proofs.PaceLemmas.{SoFar}
-use Rattle.guest_machine.proofs.RunLemmas.{IsRun}
+use Rattle.guest_rules.specs.laws.Runs.{IsRun}
 use Rattle.guest_machine.proofs.machine.Machine.run_paced.Given as goal
 
 abbrev pub invariant-loop-made : goal.invariant-loop-made

@@ -1,4 +1,4 @@
-use Rattle.guest_machine.proofs.RunLemmas.{empty_before, quiet_before}
+use Rattle.guest_rules.specs.laws.Runs.{empty_before, quiet_before}
 use Rattle.guest_machine.proofs.machine.Machine.run_to_frame.Goals as goal
 
 pub returns-clause-quiet : goal.returns-clause-quiet

@@ -1,12 +1,12 @@
 use Rattle.std.proofs.Common.{◌+◌, ℕ, List, arith, refl, subst, sym, ◌∙◌}
-use Rattle.guest_machine.specs.Aligned.{IsAligned}
-use Rattle.guest_machine.specs.Flags.{KeepsFlags}
-use Rattle.guest_machine.specs.Guest.{State}
+use Rattle.guest_rules.specs.Aligned.{IsAligned}
+use Rattle.guest_rules.specs.Flags.{KeepsFlags}
+use Rattle.guest_rules.specs.Guest.{State}
 use Rattle.guest_machine.specs.PageOps.{AreDecoded}
 use Rattle.guest_machine.specs.Parts.{state_with}
-use Rattle.guest_machine.proofs.AlignedLemmas.{aligned-next, aligned_after}
+use Rattle.guest_rules.specs.laws.Aligned.{aligned-next, aligned_after}
 use Rattle.guest_machine.proofs.FlagLemmas.{keeps_same, keeps_on}
-use Rattle.guest_machine.proofs.RunLemmas.{IsRun, no_run, none_before, longer_run, few_before, run_then_quiet, few_before_quiet}
+use Rattle.guest_rules.specs.laws.Runs.{IsRun, no_run, none_before, longer_run, few_before, run_then_quiet, few_before_quiet}
 use Rattle.guest_machine.proofs.machine.Machine.run_while.Goals as goal
 
 pub loop-made-init : goal.loop-made-init

@@ -1,9 +1,9 @@
 use Rattle.std.proofs.Common.{◌≡◌, ◌-◌, ◌≤◌}
-use Rattle.guest_machine.specs.Aligned.{IsAligned}
-use Rattle.guest_machine.specs.Flags.{KeepsFlags}
+use Rattle.guest_rules.specs.Aligned.{IsAligned}
+use Rattle.guest_rules.specs.Flags.{KeepsFlags}
 use Rattle.guest_machine.specs.PageOps.{AreDecoded}
 use Rattle.guest_machine.specs.Parts.{guest_of, state_with}
-use Rattle.guest_machine.proofs.RunLemmas.{IsRun, IsFewBefore}
+use Rattle.guest_rules.specs.laws.Runs.{IsRun, IsFewBefore}
 use Rattle.guest_machine.proofs.machine.Machine.run_while.Given as goal
 
 abbrev pub invariant-loop-made : goal.invariant-loop-made

@@ -1,8 +1,8 @@
 use Rattle.std.proofs.Common.{rules, ◌≡◌, subst}
 use Rattle.rv64_core.specs.Registers.{AreRegisters}
-use Rattle.guest_machine.specs.declared.machine_state.MachineState.{MachineState}
-use Rattle.guest_machine.specs.Guest.{State}
-use Rattle.guest_machine.specs.MachineStates.{state_of}
+use Rattle.guest_rules.specs.declared.machine_state.MachineState.{MachineState}
+use Rattle.guest_rules.specs.Guest.{State}
+use Rattle.guest_rules.specs.MachineStates.{state_of}
 use Rattle.guest_machine.proofs.StateLemmas.{same_with_state}
 use Rattle.guest_machine.proofs.machine.Machine.state.Goals as goal
 

@@ -1,9 +1,9 @@
 use Rattle.std.proofs.Common.{◌≡◌, ℕ, ◌<◌, ◌++◌, List, length, arith, ap, subst, ◌∙◌, refl}
 use Rattle.std.proofs.lemmas.List.{append-nil}
 use Rattle.arrayvec.specs.ArrayVec.{ArrayVec}
-use Rattle.guest_machine.specs.Guest.{Guest}
-use Rattle.guest_machine.specs.Runs.{after_steps, sent_in, marked_in, HaveRoom}
-use Rattle.guest_machine.proofs.RunLemmas.{none_sent, one_step, sent_in_one, marked_in_one, room_for_one}
+use Rattle.guest_rules.specs.Guest.{Guest}
+use Rattle.guest_rules.specs.Runs.{after_steps, sent_in, marked_in, HaveRoom}
+use Rattle.guest_rules.specs.laws.Runs.{none_sent, one_step, sent_in_one, marked_in_one, room_for_one}
 use Rattle.guest_machine.proofs.machine.Machine.step.Goals as goal
 
 same_outbox : (g : Guest) {n : ℕ} {o o' : List (ArrayVec ℕ)} → n ≡ 0 → o' ≡ o ++ sent_in n g → o' ≡ o

@@ -1,5 +1,5 @@
 use Rattle.std.proofs.Common.{◌≡◌, ◌*◌, length, sym, ap, ◌∙◌, subst}
-use Rattle.guest_machine.specs.declared.shapes.Shape.{Shape}
+use Rattle.guest_rules.specs.declared.shapes.Shape.{Shape}
 use Rattle.hypervisor.specs.Opening.{UnnamedState, start_with}
 use Rattle.hypervisor.proofs.OpeningLaws.{boots, reached, settled-is, image-is, first-shape}
 use Rattle.hypervisor.proofs.boot.UnnamedPair.named.Goals as goal

@@ -1,6 +1,6 @@
 use Rattle.std.proofs.Common.{◌≡◌, IfOk, Ok, subst}
 use Rattle.backup_image.specs.Images.{settled_machine}
-use Rattle.guest_machine.specs.Guest.{boot_guest}
+use Rattle.guest_rules.specs.Guest.{boot_guest}
 use Rattle.hypervisor.specs.Opening.{first_image}
 use Rattle.hypervisor.proofs.OpeningLaws.{boots-unnamed}
 use Rattle.hypervisor.proofs.boot.UnnamedPair.new.Goals as goal

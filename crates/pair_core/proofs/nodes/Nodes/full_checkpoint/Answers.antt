@@ -1,5 +1,5 @@
 use Rattle.std.proofs.Common.{[], length, replicate}
-use Rattle.guest_machine.specs.Guest.{sector_count}
+use Rattle.guest_rules.specs.Guest.{sector_count}
 use Rattle.epoch_snapshot.specs.Cuts.{used_sectors}
 use Rattle.pair_core.specs.internal.NodesFields.{image_or}
 use Rattle.pair_core.specs.laws.Nodes.{delta-text}

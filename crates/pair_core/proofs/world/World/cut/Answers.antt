@@ -6,7 +6,7 @@ use Rattle.pair_core.specs.{Replication.Replicates, Texts.IsText, Pair.Pair}
 use Rattle.pair_record.specs.{Protocol.{Outcome, cut_refusals, cut_done}, declared.window.Window.Window}
 use Rattle.pair_core.specs.internal.WorldFields.{pair_of}
 use Rattle.epoch_snapshot.specs.Bases.{IsBase}
-use Rattle.guest_machine.specs.Guest.{Guest}
+use Rattle.guest_rules.specs.Guest.{Guest}
 use Rattle.pair_record.specs.laws.Modes.{primary_goes}
 use Rattle.pair_core.specs.laws.Consistent.{in_mode, live_is}
 use Rattle.pair_core.proofs.ReplicationLaws.{cut_replicates}

@@ -1,5 +1,5 @@
 use Rattle.std.proofs.Common.{rules, ◌∙◌, ◌+◌, [], ap, sym, subst}
-use Rattle.guest_machine.specs.Guest.{Guest}
+use Rattle.guest_rules.specs.Guest.{Guest}
 use Rattle.frame_ports.specs.Limits.{number_limit}
 use Rattle.pair_record.specs.declared.event.Event.TheVariants.{Protect}
 use Rattle.pair_core.specs.{Invariant.Holds, Nodes.{Nodes, HasShape, with_protected}}

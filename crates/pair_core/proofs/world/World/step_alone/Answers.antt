@@ -1,5 +1,5 @@
 use Rattle.std.proofs.Common.{◌≡◌, ◌∙◌, ℕ, zero, suc, ◌+◌, ◌<◌, List, ◌++◌, length, replicate, sym, ap, subst, arith, true}
-use Rattle.guest_machine.specs.Runs.{sent_in}
+use Rattle.guest_rules.specs.Runs.{sent_in}
 use Rattle.frame_ports.specs.{Addresses.targets_of, Limits.number_limit}
 use Rattle.pair_history.specs.{Entries.{Frame, Ran}, Landings.landings}
 use Rattle.pair_record.specs.{Journal.{all_entries, with_history}, Modes.is_alone, Record.ports_landed}

@@ -1,5 +1,5 @@
 use Rattle.std.proofs.Common.{◌∙◌, List, ap}
-use Rattle.guest_machine.specs.Step.{next, sent}
+use Rattle.guest_rules.specs.Step.{next, sent}
 use Rattle.pair_history.specs.Entries.{Frame}
 use Rattle.pair_record.specs.Protocol.{first_refusal, step_refusals, step_done, step_outcome}
 use Rattle.pair_core.specs.internal.WorldFields.{pair_of}

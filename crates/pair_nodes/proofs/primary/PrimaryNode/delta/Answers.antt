@@ -2,8 +2,8 @@
 use Rattle.std.proofs.Common.{ap, List, ℕ, subst}
 use Rattle.std.proofs.lemmas.Result.{IfOk-weaker}
 use Rattle.epoch_snapshot.specs.Bases.{IsBase}
-use Rattle.guest_machine.specs.Guest.{Guest, State}
-use Rattle.guest_machine.specs.declared.shapes.Shape.{Shape}
+use Rattle.guest_rules.specs.Guest.{Guest, State}
+use Rattle.guest_rules.specs.declared.shapes.Shape.{Shape}
 use Rattle.pair_core.specs.Nodes.{HasShape, machine_of, node_of}
 use Rattle.pair_core.specs.Texts.{IsText}
 use Rattle.pair_core.specs.laws.Nodes.{base-of, delta-text}

@@ -4,8 +4,8 @@ use Rattle.std.proofs.lemmas.Result.{IfOk-weaker}
 use Rattle.checkpoint_stream.specs.Bounds.{most_text}
 use Rattle.epoch_snapshot.specs.Cuts.{used_sectors}
 use Rattle.full_text.specs.Full.{IsFullText, Making, whole, zeros}
-use Rattle.guest_machine.specs.Guest.{Guest, State, sector_count}
-use Rattle.guest_machine.specs.declared.shapes.Shape.{Shape}
+use Rattle.guest_rules.specs.Guest.{Guest, State, sector_count}
+use Rattle.guest_rules.specs.declared.shapes.Shape.{Shape}
 use Rattle.pair_core.specs.Nodes.{HasShape}
 use Rattle.pair_core.specs.Texts.{IsText}
 use Rattle.pair_core.specs.laws.Nodes.{delta-text}

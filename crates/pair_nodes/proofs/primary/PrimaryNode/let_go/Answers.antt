@@ -4,7 +4,7 @@ use Rattle.std.specs.Prelude.{not}
 use Rattle.std.proofs.lemmas.List.{length-drop}
 use Rattle.std.proofs.lemmas.List.Elements.{All-drop}
 use Rattle.failover.specs.Generations.{GenerationState}
-use Rattle.guest_machine.specs.Guest.{State}
+use Rattle.guest_rules.specs.Guest.{State}
 use Rattle.output_gate.specs.Epochs.{Epoch, after_number}
 use Rattle.output_gate.specs.Gate.{GateState}
 use Rattle.pair_record.specs.Modes.{is_alone}

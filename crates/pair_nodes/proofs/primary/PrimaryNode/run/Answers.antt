@@ -1,7 +1,7 @@
 -- Steps leave the guest its shape and the texts as they were, and the frames in the outbox have numbers.
 use Rattle.std.proofs.Common.{List, ℕ, length, sym, ap, subst, arith, All, ◌≤◌}
 use Rattle.checkpoint_stream.specs.Bounds.{most_text}
-use Rattle.guest_machine.specs.Guest.{State}
+use Rattle.guest_rules.specs.Guest.{State}
 use Rattle.pair_core.specs.Nodes.{HasShape}
 use Rattle.pair_nodes.specs.Flagged.{Flagged}
 use Rattle.pair_nodes.proofs.Sized.{sized_after_steps}

@@ -4,7 +4,7 @@ use Rattle.std.specs.Prelude.{not, if◌then◌else◌}
 use Rattle.std.proofs.lemmas.List.{length-append}
 use Rattle.std.proofs.lemmas.List.Elements.{All-append, All-cons, All-nil}
 use Rattle.failover.specs.declared.mode.Mode.TheVariants as modes
-use Rattle.guest_machine.specs.Guest.{State}
+use Rattle.guest_rules.specs.Guest.{State}
 use Rattle.output_gate.specs.Epochs.{Epoch, epoch}
 use Rattle.output_gate.specs.Gate.{GateState}
 use Rattle.pair_record.specs.laws.Windows.{NumberedFrom-push}

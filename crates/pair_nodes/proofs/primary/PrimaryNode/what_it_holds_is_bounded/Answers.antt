@@ -1,8 +1,8 @@
 -- Each list of a primary has its bound.
 use Rattle.std.proofs.Common.{◌≡◌, ◌≤◌, ◌*◌, List, length, sym, ap, ◌∙◌, subst, arith, All}
 use Rattle.frame_ports.specs.Addresses.{IsFrame}
-use Rattle.guest_machine.specs.Guest.{State, sector_count}
-use Rattle.guest_machine.specs.Limits.{page_bytes}
+use Rattle.guest_rules.specs.Guest.{State, sector_count}
+use Rattle.guest_rules.specs.Limits.{page_bytes}
 use Rattle.pair_history.specs.Entries.{Frame}
 use Rattle.checkpoint_stream.specs.Bounds.{most_text}
 use Rattle.pair_nodes.specs.Flagged.{Flagged}

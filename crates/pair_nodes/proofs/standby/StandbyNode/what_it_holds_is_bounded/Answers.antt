@@ -2,8 +2,8 @@
 use Rattle.std.proofs.Common.{◌≡◌, ◌≤◌, ◌*◌, List, length, None, All, subst, ap, ◌∙◌}
 use Rattle.checkpoint_stream.specs.Bounds.{IsBounded}
 use Rattle.frame_ports.specs.Addresses.{IsFrame}
-use Rattle.guest_machine.specs.Limits.{page_bytes}
-use Rattle.guest_machine.specs.declared.shapes.Shape.{Shape}
+use Rattle.guest_rules.specs.Limits.{page_bytes}
+use Rattle.guest_rules.specs.declared.shapes.Shape.{Shape}
 use Rattle.pair_history.specs.Entries.{Frame}
 use Rattle.pair_nodes.specs.Sides.{Standby}
 use Rattle.pair_nodes.proofs.Bounding.{standby-bytes}

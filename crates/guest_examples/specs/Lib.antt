@@ -1,0 +1,3 @@
+pub mod Beacon
+pub mod DiskGuest
+pub mod Examples

@@ -1,8 +1,0 @@
-use Rattle.guest_machine.proofs.ApartLemmas.{next-apart, arrived-apart}
-use Rattle.guest_machine.proofs.laws.devices_apart.Goals as goal
-
-pub returns : goal.returns
-returns c = record {
-  step = λ g. next-apart g;
-  arrival = λ g frame. arrived-apart g frame;
-}
