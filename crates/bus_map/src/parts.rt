@@ -1,7 +1,7 @@
 //! The parts of the machine that an address can name.
 
 /// A register of the timer and software interrupts, the core-local interruptor (CLINT).
-#[derive(Clone, Copy, Debug, PartialEq, Eq)]
+#[derive(Clone, Copy, PartialEq, Eq)]
 pub enum TimerRegister {
     /// `msip`, 4 bytes wide: its bit 0 is the software interrupt.
     Msip,
@@ -12,7 +12,7 @@ pub enum TimerRegister {
 }
 
 /// What an access names.
-#[derive(Clone, Copy, Debug, PartialEq, Eq)]
+#[derive(Clone, Copy, PartialEq, Eq)]
 pub enum Place {
     /// RAM, at this many bytes from its start. The map gives RAM all addresses from `0x8000_0000` on: whether
     /// the access lies within the RAM that there is, the machine tests.

@@ -7,7 +7,7 @@ ghost use Rattle.checkpoint_stream.specs.Taken.{is_at_frame};
 use crate::rules::HEAD_NUMBERS;
 
 /// The unit that comes next.
-#[derive(Clone, Copy)]
+#[derive(Clone, Copy, PartialEq, Eq)]
 pub enum Place {
     /// A number of the head.
     Head,

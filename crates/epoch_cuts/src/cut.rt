@@ -5,9 +5,9 @@ ghost use Rattle.epoch_snapshot.specs.Bases.{IsBase, IsCheckpointOver};
 ghost use Rattle.epoch_snapshot.specs.Cuts.{used_sectors};
 ghost use Rattle.epoch_snapshot.specs.Images.{image_of};
 
-use epoch_snapshot::Checkpoint;
 use crate::memory::{Over, push_pages};
 use crate::sectors::{push_used, push_written};
+use epoch_snapshot::Checkpoint;
 use frame_list::FrameList;
 use guest_machine::Machine;
 use memory_wanted::{MemoryWanted, with_capacity};

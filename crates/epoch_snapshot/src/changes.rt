@@ -9,7 +9,7 @@ pub const BLOCK_BYTES: usize = 64;
 pub type Block = [u8; BLOCK_BYTES];
 
 /// Which blocks of a page a checkpoint changes.
-#[derive(Clone, Copy, Debug, PartialEq, Eq)]
+#[derive(Clone, Copy)]
 pub struct PageChange {
     /// The page, from 0 for the one at the start of memory.
     pub page: u32,
@@ -18,7 +18,7 @@ pub struct PageChange {
 }
 
 /// The new bytes of a sector.
-#[derive(Clone, Copy, Debug, PartialEq, Eq)]
+#[derive(Clone, Copy)]
 pub struct SectorChange {
     /// The sector, from 0.
     pub sector: u32,

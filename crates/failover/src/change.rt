@@ -1,7 +1,7 @@
 //! The changes of mode.
 
 /// What may happen to a pair.
-#[derive(Clone, Copy, Debug, PartialEq, Eq)]
+#[derive(Clone, Copy)]
 pub enum Change {
     /// The primary stops, and the backup may go live.
     FailPrimary,

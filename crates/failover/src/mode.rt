@@ -8,7 +8,7 @@ use crate::errors::FailoverError;
 use std::fmt;
 
 /// Who runs the guest, and whether the other node could go on in its place.
-#[derive(Clone, Copy, Debug, PartialEq, Eq)]
+#[derive(Clone, Copy, PartialEq, Eq)]
 pub enum Mode {
     /// The primary runs the guest, and the backup holds an image of it.
     Paired,

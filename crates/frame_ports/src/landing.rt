@@ -1,7 +1,7 @@
 //! What becomes of a frame of the guest at one client.
 
 /// What becomes of a frame of the guest at one client, in [`Ports::land`](crate::Ports::land).
-#[derive(Clone, Copy, Debug, PartialEq, Eq)]
+#[derive(Clone, Copy)]
 pub enum Landing {
     /// It lies last in the client's box.
     In,

@@ -7,7 +7,7 @@ use crate::limits::MAX_CLIENTS;
 use std::marker::Model;
 
 /// The clients to whom one frame goes, at most 16.
-#[derive(Clone, Copy, Debug, PartialEq, Eq)]
+#[derive(Clone, Copy)]
 pub struct Targets {
     /// Bit c - 1 for client c.
     bits: u16,

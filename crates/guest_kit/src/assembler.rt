@@ -7,7 +7,7 @@ ghost use Rattle.guest_kit.specs.Registers.{register_number};
 use rv64_core::{Condition, CsrOp, Instr, Operation, Register, Width, encode};
 
 /// A register that the programs use.
-#[derive(Clone, Copy, Debug, PartialEq, Eq)]
+#[derive(Clone, Copy)]
 pub(crate) enum Reg {
     /// x0, which reads 0.
     X0 = 0,

@@ -41,7 +41,8 @@ pub use block_device::SECTOR_BYTES;
 pub use bus_map::RAM_BASE;
 pub use errors::MachineError;
 pub use guest_rules::{
-    MachineState, Shape, changed_sectors_are_listed, devices_apart, kept_disk, kept_memory, sent_frames,
+    MachineState, Shape, changed_sectors_are_listed, devices_apart, kept_disk, kept_memory,
+    sent_frames,
 };
 pub use limits::limits_are_the_rules;
 pub use machine::Machine;

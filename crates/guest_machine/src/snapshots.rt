@@ -10,9 +10,8 @@ ghost use Rattle.guest_rules.specs.MachineStates.{IsMachineState, state_of, with
 use crate::blocks::BLOCK_BYTES;
 use crate::hart::{Hart, registers_with};
 use crate::machine::Machine;
-use guest_rules::MachineState;
-use guest_rules::Shape;
 use block_device::SECTOR_BYTES;
+use guest_rules::{MachineState, Shape};
 use mtraps::Csrs;
 use paged_memory::PAGE_BYTES;
 

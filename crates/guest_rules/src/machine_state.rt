@@ -4,7 +4,7 @@ use mtraps::CsrValues;
 use virtio_mmio::DeviceState;
 
 /// What a checkpoint states whole: the hart, its timer and both devices' records. Neither memory nor sectors.
-#[derive(Clone, Copy, Debug, PartialEq, Eq)]
+#[derive(Clone, Copy, PartialEq, Eq)]
 pub struct MachineState {
     /// How many steps were made since boot, modulo 2^64.
     pub steps: u64,

@@ -3,7 +3,7 @@ ghost use Rattle.std.specs.Prelude.{◌≤◌};
 ghost use Rattle.paged_memory.specs.Limits.{most_pages as page_limit};
 
 /// How large a machine is: 1 to 16384 pages of memory, of 4096 bytes each, and 1 to 32768 sectors of disk, of 512 bytes each.
-#[derive(Clone, Copy, Debug, PartialEq, Eq)]
+#[derive(Clone, Copy, PartialEq, Eq)]
 pub struct Shape {
     /// Pages of memory.
     pub pages: u32,

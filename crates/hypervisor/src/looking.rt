@@ -24,7 +24,7 @@ pub struct Found {
 
 /// The pair is in a later generation than its first, since a node has failed. Only who looked at the book of such a pair has this.
 /// Contracts see the number of the generation.
-#[derive(Debug, Drop)]
+#[derive(Drop)]
 pub struct LaterGeneration {
     generation: u64,
 }

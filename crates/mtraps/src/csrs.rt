@@ -12,7 +12,7 @@ use std::marker::Model;
 ///
 /// Each holds only what a write can leave there: `mstatus` has bits 3 and 7 beside `0x1800`, `mie` bits 3, 7 and 11,
 /// bit 1 of `mtvec` and bits 1:0 of `mepc` are clear.
-#[derive(Clone, Copy, Debug, PartialEq, Eq)]
+#[derive(Clone, Copy, PartialEq, Eq)]
 pub struct Csrs {
     values: CsrValues,
 }

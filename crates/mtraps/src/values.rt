@@ -6,7 +6,7 @@ ghost use Rattle.mtraps.specs.CsrTable.{legal_value};
 use crate::{numbers, status};
 
 /// The values of the CSRs that hold one. The others always read the same.
-#[derive(Clone, Copy, Debug, PartialEq, Eq)]
+#[derive(Clone, Copy, PartialEq, Eq)]
 pub struct CsrValues {
     /// Machine status: `0x1800`, with bit 3 where interrupts are enabled, and bit 7 where they were before the trap.
     pub mstatus: u64,

@@ -23,7 +23,7 @@ const TRANSMIT_QUEUE: u32 = 1;
 const HEADER: [u8; 12] = [0, 0, 0, 0, 0, 0, 0, 0, 0, 0, 1, 0];
 
 /// A network card. It keeps nothing beside its registers, which its user reads and writes for the driver.
-#[derive(Clone, Copy, Debug, PartialEq, Eq)]
+#[derive(Clone, Copy)]
 pub struct NetDevice {
     /// The registers, of a device of the kind `Network`.
     pub transport: Transport,

@@ -14,7 +14,7 @@ use frame_ports::{Landing, Ports};
 
 /// What became of frames that landed, counted for each client that a frame goes to. A frame that goes nowhere
 /// doesn't count, nor one that came for that client before.
-#[derive(Clone, Copy, Debug, PartialEq, Eq)]
+#[derive(Clone, Copy)]
 pub struct Landed {
     /// How many were put into boxes.
     pub landed: u64,

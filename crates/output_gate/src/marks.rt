@@ -4,7 +4,7 @@ ghost use Rattle.std.specs.List.{prefix_len};
 ghost use Rattle.output_gate.specs.internal.Fields.{total};
 
 /// One held epoch.
-#[derive(Clone, Copy, Debug, PartialEq, Eq)]
+#[derive(Clone, Copy)]
 pub(crate) struct Mark {
     /// The number of the checkpoint that ends it.
     pub(crate) number: u64,

@@ -17,14 +17,14 @@ use growing_history::{BackupSeat, Clock, Pair, What};
 use pair_record::{Event, Packet, Refusal, Reply, mode_refusal};
 
 /// That the backup has committed the checkpoint of this generation and number, and all before it in that generation.
-#[derive(Clone, Copy, Debug, PartialEq, Eq)]
+#[derive(Clone, Copy)]
 pub struct Ack {
     pub generation: u64,
     pub number: u64,
 }
 
 /// What landed where frames left the gate.
-#[derive(Clone, Copy, Debug, PartialEq, Eq)]
+#[derive(Clone, Copy, PartialEq, Eq)]
 pub struct LandedCount {
     /// How many frames, each counted for each client whose box took it.
     pub count: u64,

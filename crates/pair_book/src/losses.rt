@@ -14,7 +14,7 @@ use pair_record::Refusal;
 use std::marker::Model;
 
 /// What became of a loss that was asked for.
-#[derive(Clone, Copy, Debug, PartialEq, Eq)]
+#[derive(Clone, Copy, PartialEq, Eq)]
 pub enum Lost {
     /// The frame that was there is dropped.
     Dropped,

@@ -7,7 +7,7 @@ use growing_history::{Pair, RunnerSeat};
 use pair_record::{Mode, Refusal, is_stopped};
 
 /// Which checkpoint the runner is to prepare.
-#[derive(Clone, Copy, Debug, PartialEq, Eq)]
+#[derive(Clone, Copy, PartialEq, Eq)]
 pub enum Kind {
     /// None: the node is alone.
     Nothing,
@@ -18,7 +18,7 @@ pub enum Kind {
 }
 
 /// What the runner is to prepare, and under which generation and number it is taken.
-#[derive(Clone, Copy, Debug, PartialEq, Eq)]
+#[derive(Clone, Copy, PartialEq, Eq)]
 pub struct Want {
     pub kind: Kind,
     /// The pair's generation, from 1. Where nothing is wanted it isn't looked at.

@@ -37,7 +37,7 @@ use std::alloc::Global;
 const MOST_PENDING: u64 = 4;
 
 /// An epoch of a runner: so many arrivals of the frames that were handed out to it, the first first, and then so many steps.
-#[derive(Clone, Copy, Debug, PartialEq, Eq)]
+#[derive(Clone, Copy)]
 pub struct OpenEpoch {
     pub arrivals: usize,
     pub steps: u64,

@@ -28,7 +28,7 @@ use std::alloc::Global;
 use std::marker::Model;
 
 /// Which checkpoint is to be acknowledged after a commit.
-#[derive(Clone, Copy, Debug, PartialEq, Eq)]
+#[derive(Clone, Copy, PartialEq, Eq)]
 pub enum Commit {
     /// The one that was committed.
     Committed(Packet),

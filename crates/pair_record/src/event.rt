@@ -138,7 +138,7 @@ impl From<MemoryWanted> for Refusal {
 }
 
 /// What an event is answered.
-#[derive(Debug, Drop)]
+#[derive(Drop)]
 pub enum Reply {
     /// The guest's step count now.
     Steps(u64),
@@ -196,7 +196,7 @@ pub enum Reply {
 }
 
 /// What an operator sees of the pair.
-#[derive(Clone, Copy, Debug, PartialEq, Eq)]
+#[derive(Clone, Copy, PartialEq, Eq)]
 pub struct Show {
     /// Who runs the guest.
     pub mode: Mode,
@@ -211,7 +211,7 @@ pub struct Show {
 }
 
 /// A packet of either line: a checkpoint, or its acknowledgement.
-#[derive(Clone, Copy, Debug, PartialEq, Eq)]
+#[derive(Clone, Copy, PartialEq, Eq)]
 pub struct Packet {
     /// The generation, from 1.
     pub generation: u64,

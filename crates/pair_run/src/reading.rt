@@ -16,7 +16,7 @@ use script_player::sim::first_line;
 use std::alloc::Global;
 
 /// What was read so far.
-#[derive(Debug, Drop)]
+#[derive(Drop)]
 enum Stage {
     /// Nothing.
     Unbooted,

@@ -6,7 +6,7 @@ use memory_wanted::MemoryWanted;
 use script_player::boot::Boot;
 
 /// What a client does.
-#[derive(Debug, Drop)]
+#[derive(Drop)]
 pub enum Action {
     /// It takes the first frame of its box.
     Take,
@@ -15,7 +15,7 @@ pub enum Action {
 }
 
 /// What one client does.
-#[derive(Debug, Drop)]
+#[derive(Drop)]
 pub struct ClientLine {
     /// Its number, from 1 up to the number of clients.
     pub client: u64,
@@ -24,7 +24,7 @@ pub struct ClientLine {
 }
 
 /// What a file says.
-#[derive(Debug, Drop)]
+#[derive(Drop)]
 pub struct RunFile {
     /// The pair to boot.
     pub boot: Boot,
@@ -37,7 +37,7 @@ pub struct RunFile {
 }
 
 /// Why a file isn't read.
-#[derive(Debug, Drop)]
+#[derive(Drop)]
 pub enum Unread {
     /// The line of this number is bad; the first one is 1.
     Bad(u64),

@@ -5,7 +5,7 @@ use crate::{
 };
 
 /// An instruction with its fields. An immediate is already sign extended to 64 bits.
-#[derive(Clone, Copy, Debug, PartialEq, Eq)]
+#[derive(Clone, Copy)]
 pub enum Instr {
     /// LUI: `imm` into `rd`.
     Lui {

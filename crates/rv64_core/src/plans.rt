@@ -3,7 +3,7 @@
 use crate::{CsrOp, Register, Width};
 
 /// What an instruction does. Numbers wrap at 2^64.
-#[derive(Clone, Copy, Debug, PartialEq, Eq)]
+#[derive(Clone, Copy, PartialEq, Eq)]
 pub enum Plan {
     /// Go on at `pc`, with `value` in `rd`.
     Next {

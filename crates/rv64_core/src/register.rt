@@ -6,7 +6,7 @@ ghost use Rattle.rv64_core.specs.Registers.{register, with_register, no_register
 use std::marker::Model;
 
 /// The number of a register, 0 to 31.
-#[derive(Clone, Copy, Debug, PartialEq, Eq)]
+#[derive(Clone, Copy, PartialEq, Eq)]
 pub struct Register {
     number: u8,
 }
@@ -65,7 +65,7 @@ impl Register {
 }
 
 /// The values of the registers x0 to x31. The first of them is always 0.
-#[derive(Clone, Copy, Debug, PartialEq, Eq)]
+#[derive(Clone, Copy, PartialEq, Eq)]
 pub struct Regs {
     values: [u64; 32],
 }

@@ -21,7 +21,7 @@ const PAGE_WORDS: u64 = 1024;
 const FIELD_BYTES: usize = 9;
 
 /// The program that the guest runs.
-#[derive(Debug, Drop)]
+#[derive(Drop)]
 pub enum Guest {
     /// Jumps to itself.
     Idle,
@@ -39,7 +39,7 @@ pub enum Guest {
 }
 
 /// What a boot line says.
-#[derive(Debug, Drop)]
+#[derive(Drop)]
 pub struct Boot {
     /// Pages of 4096 bytes of RAM, 1 to 16384.
     pub pages: u32,

@@ -1,7 +1,7 @@
 //! What a store asks of the device.
 
 /// What a store asks of the device behind the registers.
-#[derive(Clone, Copy, Debug, PartialEq, Eq)]
+#[derive(Clone, Copy, PartialEq, Eq)]
 pub enum Action {
     /// Nothing.
     None,

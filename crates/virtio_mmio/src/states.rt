@@ -5,7 +5,7 @@ ghost use Rattle.std.specs.Prelude.{◌≡◌};
 use virtqueue::Queue;
 
 /// The device record: all that a device's registers keep (virtio 1.1, 4.2.2).
-#[derive(Clone, Copy, Debug, PartialEq, Eq)]
+#[derive(Clone, Copy, PartialEq, Eq)]
 pub struct DeviceState {
     /// The device status field (virtio 1.1, 2.1): bits of 0xcf alone.
     pub status: u32,

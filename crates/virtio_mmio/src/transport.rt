@@ -20,7 +20,7 @@ use virtqueue::Queue;
 const CONFIG: u64 = 0x100;
 
 /// The registers of one device: which device it is, which stays, and what its registers keep.
-#[derive(Clone, Copy, Debug, PartialEq, Eq)]
+#[derive(Clone, Copy, PartialEq, Eq)]
 pub struct Transport {
     kind: DeviceKind,
     state: DeviceState,

@@ -13,7 +13,7 @@ use arrayvec::ArrayVec;
 use std::marker::Model;
 
 /// One buffer of a chain: so many bytes from a guest address on, which the device reads or writes.
-#[derive(Clone, Copy, Debug, Default, PartialEq, Eq)]
+#[derive(Clone, Copy, Default)]
 pub struct Descriptor {
     /// The guest address of the buffer's first byte; of no meaning if the buffer is empty.
     pub address: u64,

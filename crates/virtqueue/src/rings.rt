@@ -11,7 +11,7 @@ use crate::memory::{GuestRam, RAM_START, is_inside, read_u16, write_u16, write_u
 
 /// A split virtqueue as its device keeps it (virtio 1.1, 2.6): the registers that the driver sets and
 /// the device's two counters.
-#[derive(Clone, Copy, Debug, PartialEq, Eq)]
+#[derive(Clone, Copy, PartialEq, Eq)]
 pub struct Queue {
     /// How many descriptors the table has: 0 until the driver sets it, else a power of two up to 64.
     pub num: u32,
