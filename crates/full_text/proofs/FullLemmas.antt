@@ -31,21 +31,11 @@ rises-end : (from end : ℕ) (is : List ℕ) → Rises from end is → from ≤ 
 rises-end from end [] h = h
 rises-end from end (i ∷ is) h = omega (arith, h.0, rises-end (i + 1) end is h.1)
 
-pub rises-all : (from end : ℕ) (is : List ℕ) → Rises from end is → All (λ (i : ℕ). i < end) is
-rises-all from end [] h = All-nil (λ (i : ℕ). i < end)
-rises-all from end (i ∷ is) h =
-    All-cons (λ (i : ℕ). i < end) i is (omega (arith, rises-end (i + 1) end is h.1)) (rises-all (i + 1) end is h.1)
-
 pub pages-in : (bytes n from : ℕ) (ps : List PageChange) → bytes ≡ 4096 * n → Rises from n (map (λ (p : PageChange). p.page) ps) → AreIn bytes ps
 pages-in bytes n from [] size h = All-nil (λ (p : PageChange). 4096 * p.page + 4096 ≤ bytes)
 pages-in bytes n from (p ∷ ps) size h =
     let low : p.page + 1 ≤ n = rises-end (p.page + 1) n (map (λ (q : PageChange). q.page) ps) h.1 in
     All-cons (λ (p : PageChange). 4096 * p.page + 4096 ≤ bytes) p ps (omega (arith, size, low)) (pages-in bytes n (p.page + 1) ps size h.1)
-
--- the numbers of the sectors that a checkpoint records are those that were listed
-pub numbers-listed : (disk is : List ℕ) → map (λ (s : SectorChange). s.sector) (changed_sectors disk is) ≡ is
-numbers-listed disk [] = refl
-numbers-listed disk (i ∷ is) = ap (λ l. i ∷ l) (numbers-listed disk is)
 
 -- ---- the checkpoint
 

@@ -1,14 +1,13 @@
 -- What is put of a full checkpoint is its text.
-use Rattle.std.proofs.Common.{◌≡◌, ℕ, ◌+◌, ◌-◌, ◌*◌, ◌^◌, ◌<◌, ◌≤◌, List, [], ◌∷◌, ◌++◌, length, map, take, drop, get_or, refl, sym}
+use Rattle.std.proofs.Common.{◌≡◌, ℕ, ◌+◌, ◌-◌, ◌*◌, ◌^◌, ◌<◌, List, [], ◌∷◌, ◌++◌, length, map, take, drop, refl, sym}
 use Rattle.std.proofs.Common.{ap, ◌∙◌, arith, append_assoc, All}
-use Rattle.std.proofs.lemmas.List.{append-nil, length-append, length-map, map-append, take_at, drop_all}
+use Rattle.std.proofs.lemmas.List.{append-nil, length-append, length-map, map-append, take_at}
 use Rattle.std.proofs.lemmas.List.Elements.{All-head, All-tail}
 use Rattle.std.specs.Prelude.{count_ones, slice_range}
 use Rattle.epoch_snapshot.specs.declared.changes.PageChange.{PageChange}
-use Rattle.epoch_snapshot.specs.declared.changes.SectorChange.{SectorChange}
 use Rattle.epoch_snapshot.specs.Blocks.{block_numbers, set_blocks}
 use Rattle.epoch_snapshot.specs.Checkpoints.{Change}
-use Rattle.epoch_snapshot.specs.Cuts.{block_change, changed_blocks, changed_sectors, sector_change, sector_of}
+use Rattle.epoch_snapshot.specs.Cuts.{block_change, changed_blocks, changed_sectors, sector_of}
 use Rattle.guest_rules.specs.Guest.{Guest}
 use Rattle.guest_rules.specs.declared.shapes.Shape.{Shape}
 use Rattle.checkpoint_stream.specs.HeadTable.{bytes_of, head_table}
@@ -16,7 +15,7 @@ use Rattle.checkpoint_stream.specs.Text.{head_numbers, number_units, page_units,
 use Rattle.checkpoint_stream.specs.declared.rules.Width.TheVariants.{Four, Eight}
 use Rattle.full_text.specs.Full.{zeros, blank}
 use Rattle.full_text.specs.internal.CutRecords.{record_of, records}
-use Rattle.full_text.proofs.RecordLemmas.{OnesAreNamed, next, records-cons}
+use Rattle.full_text.proofs.RecordLemmas.{OnesAreNamed, records-cons}
 
 -- what the law `texts_are_their_parts` says, as the lemmas here take it
 abbrev pub HasParts : Type 0
@@ -100,28 +99,38 @@ pub front-of : (out head rest : List ℕ) (n : ℕ) → out ≡ head ++ rest →
 front-of out head rest n e long count =
     ap (take n) e ∙ take_at head rest n (omega (arith, ap (λ (l : List ℕ). length l) e, length-append head rest, long, count))
 
--- one sector's record more is put
-sector-first : (s : SectorChange) (ss : List SectorChange)
-    → joined (sector_units (s ∷ ss)) ≡ bytes_of Four s.sector ++ (s.bytes ++ joined (sector_units ss))
-unfolding joined sector_units
-sector-first s ss = refl
-
 pub sector-slice : (bytes : List ℕ) (i : ℕ) → slice_range bytes (512 * i) (512 * i + 512) ≡ sector_of bytes i
 sector-slice bytes i = let e : (512 * i + 512) - 512 * i ≡ 512 = omega arith in ap (λ n. take n (drop (512 * i) bytes)) e
 
-pub sectors-put : (disk used xs ys : List ℕ) (i : ℕ) → i < length used
-    → ys ≡ xs ++ (bytes_of Four (get_or used i 0) ++ sector_of disk (get_or used i 0))
-    → ys ++ joined (sector_units (changed_sectors disk (drop (i + 1) used))) ≡ xs ++ joined (sector_units (changed_sectors disk (drop i used)))
-sectors-put disk used xs ys i within e =
-    let n = bytes_of Four (get_or used i 0) in
-    let bytes = sector_of disk (get_or used i 0) in
-    let rest = joined (sector_units (changed_sectors disk (drop (i + 1) used))) in
-    ap (λ l. l ++ rest) e
-    ∙ append_assoc xs (n ++ bytes) rest
-    ∙ ap (λ l. xs ++ l) (append_assoc n bytes rest
-    ∙ sym (ap (λ l. joined (sector_units (changed_sectors disk l))) (next used i 0 within)
-    ∙ sector-first (sector_change disk (get_or used i 0)) (changed_sectors disk (drop (i + 1) used))))
-
-pub no-more-sectors : (disk used : List ℕ) (i : ℕ) → length used ≤ i → joined (sector_units (changed_sectors disk (drop i used))) ≡ []
+-- one sector's record more is put
+sectors-last : (disk before : List ℕ) (n : ℕ) → joined (sector_units (changed_sectors disk (before ++ n ∷ [])))
+    ≡ joined (sector_units (changed_sectors disk before)) ++ (bytes_of Four n ++ sector_of disk n)
 unfolding joined sector_units
-no-more-sectors disk used i past = ap (λ l. joined (sector_units (changed_sectors disk l))) (drop_all i used past)
+sectors-last disk [] n = ap (λ l. bytes_of Four n ++ l) (append-nil (sector_of disk n))
+sectors-last disk (b ∷ before) n =
+    let rest = joined (sector_units (changed_sectors disk before)) in
+    ap (λ l. bytes_of Four b ++ (sector_of disk b ++ l)) (sectors-last disk before n)
+    ∙ sym (append_assoc (bytes_of Four b) (sector_of disk b ++ rest) (bytes_of Four n ++ sector_of disk n)
+    ∙ ap (λ l. bytes_of Four b ++ l) (append_assoc (sector_of disk b) rest (bytes_of Four n ++ sector_of disk n)))
+
+pub sector-put : (disk before used xs ys zs : List ℕ) (n : ℕ) → used ≡ before ++ n ∷ []
+    → ys ≡ xs ++ joined (sector_units (changed_sectors disk before)) → zs ≡ ys ++ (bytes_of Four n ++ sector_of disk n)
+    → zs ≡ xs ++ joined (sector_units (changed_sectors disk used))
+sector-put disk before used xs ys zs n more so_far put =
+    put
+    ∙ ap (λ l. l ++ (bytes_of Four n ++ sector_of disk n)) so_far
+    ∙ append_assoc xs (joined (sector_units (changed_sectors disk before))) (bytes_of Four n ++ sector_of disk n)
+    ∙ ap (λ l. xs ++ l) (sym (ap (λ l. joined (sector_units (changed_sectors disk l))) more ∙ sectors-last disk before n))
+
+pub no-sectors : joined (sector_units []) ≡ []
+unfolding joined sector_units
+no-sectors = refl
+
+-- the count is put over the first bytes
+pub count-set : (n : ℕ) (given empty start made set later : List ℕ) → given ≡ bytes_of Four n → empty ≡ [] → start ≡ empty ++ bytes_of Four 0
+    → made ≡ start ++ later → set ≡ take 0 made ++ (given ++ drop (0 + length given) made) → set ≡ bytes_of Four n ++ later
+unfolding bytes_of
+count-set n given empty start made set later is none first more put =
+    put
+    ∙ (λ i. take 0 (more i) ++ (is i ++ drop (0 + length (is i)) (more i)))
+    ∙ ap (λ l. take 0 (l ++ later) ++ (bytes_of Four n ++ drop 4 (l ++ later))) (first ∙ ap (λ l. l ++ bytes_of Four 0) none)

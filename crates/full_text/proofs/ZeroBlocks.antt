@@ -3,14 +3,17 @@ use Rattle.std.proofs.Common.{◌≡◌, ℕ, zero, suc, ◌+◌, ◌-◌, ◌*�
 use Rattle.std.proofs.Common.{replicate, take, refl, sym, ap, ◌∙◌, arith, subst, All}
 use Rattle.std.proofs.Math.Nat.{two-pow-succ}
 use Rattle.std.proofs.lemmas.Bool.{ne_eqb, true≢false}
-use Rattle.std.proofs.lemmas.List.FromFn.{map-range_with_len_more, length-map-range_with_len}
+use Rattle.std.proofs.lemmas.List.FromFn.{map-range_with_len_more, length-map-range_with_len, get_or-map-range_with_len, fill_by_all}
 use Rattle.std.proofs.lemmas.List.Elements.{All-nil, All-cons, All-head, All-tail}
 use Rattle.std.proofs.lemmas.List.{take-replicate, drop-replicate}
 use Rattle.std.proofs.lemmas.Simd.{mask_l-mod}
 use mir.Val.{bool_byte}
 use Rattle.std.specs.{Prelude.{◌↔◌, IsTrue}, List.range_with_len, Simd.Lanes.mask_l}
-use Rattle.epoch_snapshot.specs.Blocks.{block_in, block_differs, changed_mask, differ}
+use Rattle.guest_rules.specs.Pages.{page_of}
+use Rattle.epoch_snapshot.specs.Blocks.{IsPageIn, block_in, block_differs, changed_mask, differ}
 use Rattle.full_text.specs.Full.{zeros}
+use Rattle.full_text.specs.internal.UsedBlocks.{used_flags, used_mask}
+use Rattle.full_text.proofs.RecordLemmas.{length-block}
 
 zero_block : (m n : ℕ) → 64 * n + 64 ≤ m → block_in (replicate m 0) n ≡ replicate 64 0
 zero_block m n within = ap (take {A = ℕ} 64) (drop-replicate (64 * n) m 0) ∙ take-replicate 64 (m - 64 * n) 0 (omega arith)
@@ -39,16 +42,11 @@ zero-differs n b false long says = by_value (differ (replicate n 0) b) refl
     by_value true e = sym e
     by_value false e = absurd (true≢false (sym (says.1 (all-zero n b long e))))
 
--- the flags of the first blocks of a page
-abbrev pub used_flags : List ℕ → ℕ → ℕ → List Bool
-used_flags ram page n = map (λ i. block_differs (zeros ram) ram (64 * page + i)) (range_with_len 0 n)
-
-pub block-flag : (ram block : List ℕ) (n : ℕ) (r : Bool) → 64 * n + 64 ≤ length ram → block ≡ block_in ram n → length block ≡ 64
-    → IsTrue r ↔ All (λ (x : ℕ). x ≡ 0) block → not r ≡ block_differs (zeros ram) ram n
-block-flag ram block n r within is long says =
-    zero-differs 64 block r long says
+pub block-flag : (page block : List ℕ) (n : ℕ) (r : Bool) → length page ≡ 4096 → n < 64 → block ≡ block_in page n
+    → IsTrue r ↔ All (λ (x : ℕ). x ≡ 0) block → not r ≡ differ (replicate 64 0) (block_in page n)
+block-flag page block n r long below is says =
+    zero-differs 64 block r (ap (λ (l : List ℕ). length l) is ∙ length-block page n (omega (arith, long, below))) says
     ∙ ap (differ (replicate 64 0)) is
-    ∙ ap (λ z. differ z (block_in ram n)) (sym (zero_block (length ram) n within))
 
 -- a flag behind the others is one bit above them
 mask-push : (xs : List Bool) (b : Bool) → mask_l (xs ++ b ∷ []) ≡ mask_l xs + cond b 1 0 * 2 ^ length xs
@@ -57,16 +55,16 @@ mask-push [] false = refl
 mask-push (x ∷ xs) true = omega (arith, mask-push xs true, two-pow-succ (length xs))
 mask-push (x ∷ xs) false = omega (arith, mask-push xs false)
 
-pub mask-more : (ram : List ℕ) (page n mask : ℕ) (b : Bool) → b ≡ block_differs (zeros ram) ram (64 * page + n)
-    → mask ≡ mask_l (used_flags ram page n) → mask + cond b 1 0 * 2 ^ n ≡ mask_l (used_flags ram page (n + 1))
-mask-more ram page n mask b flag is =
-    let more : used_flags ram page (n + 1) ≡ used_flags ram page n ++ b ∷ [] =
-    map-range_with_len_more (λ i. block_differs (zeros ram) ram (64 * page + i)) 0 n n (omega arith)
-    ∙ ap (λ d. used_flags ram page n ++ d ∷ []) (sym flag) in
+mask-more : (page : List ℕ) (n mask : ℕ) (b : Bool) → b ≡ differ (replicate 64 0) (block_in page n) → mask ≡ used_mask page n
+    → mask + cond b 1 0 * 2 ^ n ≡ used_mask page (n + 1)
+mask-more page n mask b flag is =
+    let more : used_flags page (n + 1) ≡ used_flags page n ++ b ∷ [] =
+    map-range_with_len_more (λ i. differ (replicate 64 0) (block_in page i)) 0 n n (omega arith)
+    ∙ ap (λ d. used_flags page n ++ d ∷ []) (sym flag) in
     (λ i. is i + cond b 1 0 * 2 ^ n)
-    ∙ ap (λ k. mask_l (used_flags ram page n) + cond b 1 0 * 2 ^ k)
-    (sym (length-map-range_with_len (λ i. block_differs (zeros ram) ram (64 * page + i)) 0 n))
-    ∙ sym (ap mask_l more ∙ mask-push (used_flags ram page n) b)
+    ∙ ap (λ k. mask_l (used_flags page n) + cond b 1 0 * 2 ^ k)
+    (sym (length-map-range_with_len (λ i. differ (replicate 64 0) (block_in page i)) 0 n))
+    ∙ sym (ap mask_l more ∙ mask-push (used_flags page n) b)
 
 bit_of : (b : Bool) → bool_byte b ≡ cond b 1 0
 bit_of true = refl
@@ -75,27 +73,43 @@ bit_of false = refl
 small-step : (mask more total : ℕ) → mask + more ≡ total → total < 2 ^ 64 → mask + more % 2 ^ 64 ≡ total
 small-step mask more total e small = omega (arith, e, small)
 
-module _ (ram : List ℕ) (page n mask bit : ℕ) (b : Bool) (below : n < 64) (is : bit ≡ bool_byte b)
-    (flag : b ≡ block_differs (zeros ram) ram (64 * page + n)) (so_far : mask ≡ mask_l (used_flags ram page n)) where
-  flags-fit : mask_l (used_flags ram page (n + 1)) < 2 ^ 64
+module _ (page : List ℕ) (n mask bit : ℕ) (b : Bool) (below : n < 64) (is : bit ≡ bool_byte b)
+    (flag : b ≡ differ (replicate 64 0) (block_in page n)) (so_far : mask ≡ used_mask page n) where
+  flags-fit : used_mask page (n + 1) < 2 ^ 64
   flags-fit =
       omega (
         arith,
-        mask_l-mod (used_flags ram page (n + 1)) 64 (omega (
+        mask_l-mod (used_flags page (n + 1)) 64 (omega (
           arith,
           below,
-          length-map-range_with_len (λ i. block_differs (zeros ram) ram (64 * page + i)) 0 (n + 1),
+          length-map-range_with_len (λ i. differ (replicate 64 0) (block_in page i)) 0 (n + 1),
         )),
       )
 
-  pub mask-next : mask + (bit * 2 ^ n) % 2 ^ 64 ≡ mask_l (used_flags ram page (n + 1))
+  pub mask-next : mask + (bit * 2 ^ n) % 2 ^ 64 ≡ used_mask page (n + 1)
   mask-next =
-      small-step mask (bit * 2 ^ n) (mask_l (used_flags ram page (n + 1)))
-      (ap (λ k. mask + k * 2 ^ n) (is ∙ bit_of b) ∙ mask-more ram page n mask b flag so_far) flags-fit
+      small-step mask (bit * 2 ^ n) (used_mask page (n + 1))
+      (ap (λ k. mask + k * 2 ^ n) (is ∙ bit_of b) ∙ mask-more page n mask b flag so_far) flags-fit
 
   pub mask-next-fits : mask + (bit * 2 ^ n) % 2 ^ 64 < 2 ^ 64
   mask-next-fits = subst (λ k. k < 2 ^ 64) (sym mask-next) flags-fit
 
-pub mask-whole : (ram : List ℕ) (page mask : ℕ) → mask ≡ mask_l (used_flags ram page 64) → mask ≡ changed_mask (zeros ram) ram page
-unfolding changed_mask
-mask-whole ram page mask is = is
+-- a page of a memory differs from zeros where its own blocks do
+module _ (law : (ram : List ℕ) (page : ℕ) → IsPageIn ram page (page_of ram page)) (ram : List ℕ) (page : ℕ)
+    (within : 4096 * page + 4096 ≤ length ram) where
+  block-same : (i : ℕ) → i < 64 → differ (replicate 64 0) (block_in (page_of ram page) i) ≡ block_differs (zeros ram) ram (64 * page + i)
+  block-same i below =
+      ap (differ (replicate 64 0)) (law ram page i below)
+      ∙ ap (λ z. differ z (block_in ram (64 * page + i))) (sym (zero_block (length ram) (64 * page + i) (omega (arith, within, below))))
+
+  flags-same : used_flags (page_of ram page) 64 ≡ map (λ i. block_differs (zeros ram) ram (64 * page + i)) (range_with_len 0 64)
+  flags-same =
+      let own = λ (i : ℕ). differ (replicate 64 0) (block_in (page_of ram page) i) in
+      fill_by_all (λ i. block_differs (zeros ram) ram (64 * page + i)) (used_flags (page_of ram page) 64) 64 false
+      (length-map-range_with_len own 0 64)
+      (λ k below. get_or-map-range_with_len own 0 64 k k false below (omega arith) ∙ block-same k below)
+
+  pub mask-whole : (bytes : List ℕ) (n mask : ℕ) → bytes ≡ page_of ram page → n ≡ 64 → mask ≡ used_mask bytes n
+      → mask ≡ changed_mask (zeros ram) ram page
+  unfolding changed_mask
+  mask-whole bytes n mask whole end is = is ∙ (λ i. used_mask (whole i) (end i)) ∙ ap mask_l flags-same

@@ -4,3 +4,4 @@ pub mod Fields
 pub mod KeptFields
 pub mod TailFields
 pub mod TextFields
+pub mod UsedBlocks

@@ -7,7 +7,7 @@ ghost use Rattle.checkpoint_stream.specs.Widths.{HasWidths};
 ghost use Rattle.full_text.specs.Full.{AreIn, IsFullText, IsMadeTo, blank, most_record, record_size, records_size, size, whole};
 ghost use Rattle.full_text.specs.MachineTexts.{IsKept};
 
-use crate::found::{used_pages, used_sectors};
+use crate::found::used_pages;
 use crate::kept::KeptPages;
 use crate::records::{COUNT_BYTES, keep_pages, put, put_four, put_records};
 use crate::tail::Tail;
@@ -69,11 +69,9 @@ impl FullText {
         let _state = machine.state();
         full_cuts_are_whole();
         let mut pages = Vec::new(alloc);
-        let mut used = Vec::new(alloc);
         used_pages(machine, shape.pages, &mut pages)?;
-        used_sectors(machine, shape.sectors, &mut used)?;
         let head = head_of(alloc, machine, shape, generation)?;
-        let tail = Tail::of_sectors(alloc, machine, used.as_slice())?;
+        let tail = Tail::of_sectors(alloc, machine, shape.sectors)?;
         let room = head.len() + COUNT_BYTES + size_of_records(pages.as_slice()) + tail.len();
         let mut made = with_capacity(alloc, room)?;
         put(&mut made, head.as_slice());

@@ -1,7 +1,6 @@
 -- Head, count, records and sectors are the text of the machine's full checkpoint.
-use Rattle.std.proofs.Common.{◌≡◌, ℕ, ◌*◌, ◌^◌, ◌<◌, ◌≤◌, ◌++◌, List, length, refl, sym, ap, ◌∙◌, subst, arith, All}
-use Rattle.guest_rules.specs.Dirty.{Rises}
-use Rattle.guest_rules.specs.Guest.{State, sector_count}
+use Rattle.std.proofs.Common.{◌≡◌, ℕ, ◌*◌, ◌^◌, ◌<◌, ◌≤◌, ◌++◌, List, length, refl, sym, ap, ◌∙◌, subst, arith}
+use Rattle.guest_rules.specs.Guest.{State}
 use Rattle.guest_rules.specs.MachineStates.{IsMachineState, state_of, with_state}
 use Rattle.guest_rules.specs.declared.machine_state.MachineState.{MachineState}
 use Rattle.guest_rules.specs.declared.shapes.Shape.{Shape}
@@ -13,7 +12,7 @@ use Rattle.checkpoint_stream.specs.HeadTable.{bytes_of}
 use Rattle.checkpoint_stream.specs.Widths.{HasWidths}
 use Rattle.checkpoint_stream.specs.declared.rules.Width.TheVariants.{Four}
 use Rattle.full_text.specs.Full.{AreIn, Making, whole, zeros}
-use Rattle.full_text.proofs.FullLemmas.{full_change, full-cut, full-widths, full-whole, full-size, full-text, numbers-listed, pages-in, rises-all}
+use Rattle.full_text.proofs.FullLemmas.{full_change, full-cut, full-widths, full-whole, full-size, full-text, pages-in}
 use Rattle.full_text.proofs.text.FullText.new.Goals as goal
 
 -- the checkpoint is canonical
@@ -23,18 +22,6 @@ canonical : (m : State) (shape : Shape) (g : ℕ) → length m.guest.ram ≡ 409
 canonical m shape g pages sectors law first last is rules =
     law m g (full_change shape m g) (full-cut shape m g pages sectors) first last (subst IsMachineState is rules)
 
-pub of_sectors-requires-clause-sectors : goal.of_sectors-requires-clause-sectors
-of_sectors-requires-clause-sectors c =
-    let disk = c.args.machine.now.guest.sectors in
-    let n = c.shape-shape.result.sectors in
-    let count : n ≡ sector_count disk = omega (arith, c.shape-shape.ensures.sectors) in
-    let rise : Rises 0 n (used_sectors disk n) =
-    subst (Rises 0 n) (numbers-listed disk (used_sectors disk n))
-    (canonical c.args.machine.now c.shape-shape.result c.args.generation c.shape-shape.ensures.pages c.shape-shape.ensures.sectors
-    c.full_cuts_are_whole.ensures.canonical c.requires.first c.requires.last c.state-state.ensures.value c.state-state.ensures.rules).sectors in
-    subst (All (λ (s : ℕ). s < sector_count disk)) (sym (c.as_slice.ensures.value ∙ c.in_ok-used_sectors.ensures.sectors))
-    (rises-all 0 (sector_count disk) (used_sectors disk n) (subst (λ (k : ℕ). Rises 0 k (used_sectors disk n)) count rise))
-
 pub overflow_add-room-3 : goal.overflow_add-room-3
 overflow_add-room-3 c =
     omega (
@@ -42,12 +29,10 @@ overflow_add-room-3 c =
       c.len.ensures,
       c.in_ok-head.ensures.short,
       c.size_of_records.ensures.most,
-      ap (λ l. length l) c.as_slice-2.ensures.value,
+      ap (λ l. length l) c.as_slice.ensures.value,
       c.in_ok-used_pages.ensures.few,
       c.len-2.ensures,
       c.in_ok-tail.ensures.size,
-      ap (λ (l : List ℕ). length l) c.as_slice.ensures.value,
-      c.in_ok-used_sectors.ensures.few,
     )
 
 -- the pages that were found are the machine's
@@ -79,13 +64,13 @@ returns-clause-text c =
     let made : f.made ≡ c.in_ok-head.head.items ++ bytes_of Four c.len-3.result =
     c.put_four.ensures.items
     ∙ ap (λ (l : List ℕ). l ++ bytes_of Four c.len-3.result) (c.put.ensures.items
-    ∙ (λ i. c.in_ok-made.ensures.items i ++ c.as_slice-3.ensures.value i)) in
+    ∙ (λ i. c.in_ok-made.ensures.items i ++ c.as_slice-2.ensures.value i)) in
     let within = found-in m shape g c.used_pages.new.pages.items c.shape-shape.ensures.pages rules c.in_ok-used_pages.ensures.pages in
     full-text shape m g (whole m.guest.ram f) cut
     (full-whole c.masks_name_blocks.ensures.all c.pages_are_their_blocks.ensures.own shape m g f c.new.ensures
     c.in_ok-used_pages.ensures.pages masks within texts.parts texts.page
-    c.in_ok-head.head.items (bytes_of Four c.len-3.result) c.as_slice.result.now made c.in_ok-head.ensures.head (ap (bytes_of Four) count)
-    (c.as_slice.ensures.value ∙ c.in_ok-used_sectors.ensures.sectors) c.in_ok-tail.ensures.tail)
+    c.in_ok-head.head.items (bytes_of Four c.len-3.result) (used_sectors m.guest.sectors shape.sectors) made c.in_ok-head.ensures.head
+    (ap (bytes_of Four) count) refl c.in_ok-tail.ensures.tail)
     (λ base. cuts.image m g checkpoint base cut all) (c.text_is_read_back.ensures checkpoint rules widths)
     (texts.short checkpoint refl rules widths)
 
