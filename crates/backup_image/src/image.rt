@@ -17,13 +17,25 @@ use std::marker::Model;
 
 /// The guest as of the last checkpoint that was committed, the checkpoint that is staged, and the frames of the last four commits. An
 /// empty image has none yet, and holds zeros. All memory that its calls need is reserved when it is made.
-#[derive(Drop)]
 pub struct Image {
     shape: Shape,
     machine: Machine,
     standing: Option<Standing>,
     staged: Option<Checkpoint>,
     kept: KeptFrames,
+}
+
+// Proved here, and not in each crate above that keeps one in a `Box` or an `Option`.
+impl Drop for Image {
+    fn drop(self) {
+        let Image {
+            shape: _,
+            machine: _,
+            standing: _,
+            staged: _,
+            kept: _,
+        } = self;
+    }
 }
 
 /// What an image gives to the node that goes on with its guest.
@@ -222,10 +234,14 @@ impl Image {
         if self.standing.is_none() {
             return Err((self, ImageError::NoImage));
         }
-        Ok(Resumed {
-            machine: self.machine,
-            kept: self.kept,
-        })
+        let Image {
+            shape: _,
+            machine,
+            standing: _,
+            staged: _,
+            kept,
+        } = self;
+        Ok(Resumed { machine, kept })
     }
 }
 

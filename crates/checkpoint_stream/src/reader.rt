@@ -20,9 +20,15 @@ use std::marker::Model;
 /// Reads a stream of checkpoints of machines of one shape, in whatever pieces its bytes come.
 ///
 /// Contracts see it as a reading: what was read of the checkpoint that has begun, and which unit comes next.
-#[derive(Drop)]
 pub struct Reader {
     parts: Parts,
+}
+
+// Proved here, and not in each crate above that keeps one in a `Box` or an `Option`.
+impl Drop for Reader {
+    fn drop(self) {
+        let Reader { parts: _ } = self;
+    }
 }
 
 impl Model for Reader {

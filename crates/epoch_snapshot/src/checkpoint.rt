@@ -16,7 +16,6 @@ pub const MOST_OLD_PAGES: u32 = 4096;
 /// each changes at least one block; the blocks stand page by page, in each from the lowest on, and none is all zero. The sectors rise and
 /// are the disk's; in a full one none is all zero. There are at most 256 frames, each of 14 to 1514 bytes, and none in version 1 and in a
 /// full one.
-#[derive(Drop)]
 pub struct Checkpoint {
     version: u32,
     shape: Shape,
@@ -27,6 +26,23 @@ pub struct Checkpoint {
     blocks: Vec<Block>,
     sectors: Vec<SectorChange>,
     frames: FrameList,
+}
+
+// Proved here, and not in each crate above that keeps one in a `Box` or an `Option`.
+impl Drop for Checkpoint {
+    fn drop(self) {
+        let Checkpoint {
+            version: _,
+            shape: _,
+            generation: _,
+            number: _,
+            state: _,
+            pages: _,
+            blocks: _,
+            sectors: _,
+            frames: _,
+        } = self;
+    }
 }
 
 impl Model for Checkpoint {
@@ -155,6 +171,17 @@ impl Checkpoint {
         ensures value { result.items ≡ self.frames }
         ensures canonical { IsCanonical self }
     {
-        self.frames
+        let Checkpoint {
+            version: _,
+            shape: _,
+            generation: _,
+            number: _,
+            state: _,
+            pages: _,
+            blocks: _,
+            sectors: _,
+            frames,
+        } = self;
+        frames
     }
 }

@@ -31,7 +31,6 @@ pub(crate) const STEPPING_FRAMES: usize = 192;
 
 /// A guest, and since the last [`settle`](Machine::settle) the frames that it sent, and which pages and sectors were written. All
 /// memory that its calls need is reserved at boot.
-#[derive(Drop)]
 pub struct Machine {
     pub(crate) hart: Hart,
     pub(crate) ram: Ram,
@@ -40,6 +39,21 @@ pub struct Machine {
     words: PreparedWords,
     pub(crate) pages: DecodedPages,
     looks: Looks,
+}
+
+// Proved here, and not in each crate above that keeps one in a `Box` or an `Option`.
+impl Drop for Machine {
+    fn drop(self) {
+        let Machine {
+            hart: _,
+            ram: _,
+            devices: _,
+            outbox: _,
+            words: _,
+            pages: _,
+            looks: _,
+        } = self;
+    }
 }
 
 impl Model for Machine {

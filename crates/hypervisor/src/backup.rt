@@ -30,13 +30,25 @@ use std::sync::{Arc, Wait};
 /// `BackupState` of the specs.
 ///
 /// Checkpoints are read, and taken into the image, with no lock held.
-#[derive(Drop)]
 pub struct Backup<P: Pair> {
     shared: Arc<Shared<P>>,
     image: Image,
     reader: Reader,
     read: Option<Checkpoint>,
     seat: BackupSeat<P>,
+}
+
+// Proved here, and not in each crate above that keeps one in a `Box` or an `Option`.
+impl<P: Pair> Drop for Backup<P> {
+    fn drop(self) {
+        let Backup {
+            shared: _,
+            image: _,
+            reader: _,
+            read: _,
+            seat: _,
+        } = self;
+    }
 }
 
 impl<P: Pair> Model for Backup<P> {

@@ -20,10 +20,16 @@ use std::sync::{Arc, Wait};
 /// A client of a pair. Contracts see its number, and what it has seen: a beginning of the one list of steps that the pair's book keeps. The
 /// history of these steps is a point of the pair's growing history, and the client's own entries in it are all its calls with their
 /// answers.
-#[derive(Drop)]
 pub struct Client<P: Pair> {
     shared: Arc<Shared<P>>,
     seat: CallerSeat<P>,
+}
+
+// Proved here, and not in each crate above that keeps one in a `Box` or an `Option`.
+impl<P: Pair> Drop for Client<P> {
+    fn drop(self) {
+        let Client { shared: _, seat: _ } = self;
+    }
 }
 
 impl<P: Pair> Model for Client<P> {

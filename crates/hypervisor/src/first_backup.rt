@@ -17,9 +17,15 @@ use std::sync::Wait;
 
 /// The first backup of a pair, which reads and commits nothing but packets of texts that were sealed. So no commit of the first generation
 /// is marked in what its seat has seen, and nobody else commits in that. Contracts see it as they see a [`Backup`].
-#[derive(Drop)]
 pub struct FirstBackup<P: Pair> {
     backup: Backup<P>,
+}
+
+// Proved here, and not in each crate above that keeps one in a `Box` or an `Option`.
+impl<P: Pair> Drop for FirstBackup<P> {
+    fn drop(self) {
+        let FirstBackup { backup: _ } = self;
+    }
 }
 
 impl<P: Pair> Model for FirstBackup<P> {

@@ -19,10 +19,16 @@ use std::marker::Model;
 use std::sync::{Arc, Wait};
 
 /// Who makes the line lose frames: the only one who has the line's seat. Contracts see what that seat has seen.
-#[derive(Drop)]
 pub struct Loss<P: Pair> {
     shared: Arc<Shared<P>>,
     line: LineSeat<P>,
+}
+
+// Proved here, and not in each crate above that keeps one in a `Box` or an `Option`.
+impl<P: Pair> Drop for Loss<P> {
+    fn drop(self) {
+        let Loss { shared: _, line: _ } = self;
+    }
 }
 
 impl<P: Pair> Model for Loss<P> {

@@ -45,7 +45,6 @@ use std::sync::{Arc, Wait};
 /// A node's machine, and what its guest has done since the last submit. Contracts see it as a `RunnerState` of the specs.
 ///
 /// Its guest runs, and checkpoints are made, with no lock held.
-#[derive(Drop)]
 pub struct Runner<P: Pair> {
     alloc: Global,
     shared: Arc<Shared<P>>,
@@ -54,6 +53,21 @@ pub struct Runner<P: Pair> {
     epoch: OpenEpoch,
     prepared: Prepared,
     seat: RunnerSeat<P>,
+}
+
+// Proved here, and not in each crate above that keeps one in a `Box` or an `Option`.
+impl<P: Pair> Drop for Runner<P> {
+    fn drop(self) {
+        let Runner {
+            alloc: _,
+            shared: _,
+            machine: _,
+            held: _,
+            epoch: _,
+            prepared: _,
+            seat: _,
+        } = self;
+    }
 }
 
 impl<P: Pair> Model for Runner<P> {

@@ -7,10 +7,19 @@ use std::marker::Model;
 
 /// A packet of a text that was sealed, with the badge of a seat that has seen so. Its type keeps that, whatever it crosses: its bytes are
 /// those of the checkpoint that was sealed under its generation and number. Contracts see the packet, and what the badge tells of.
-#[derive(Drop)]
 pub struct SealedPacket<P: Pair> {
     pub(crate) packet: TextPacket,
     pub(crate) badge: Badge<P>,
+}
+
+// Proved here, and not in each crate above that keeps one in a `Box` or an `Option`.
+impl<P: Pair> Drop for SealedPacket<P> {
+    fn drop(self) {
+        let SealedPacket {
+            packet: _,
+            badge: _,
+        } = self;
+    }
 }
 
 impl<P: Pair> Model for SealedPacket<P> {

@@ -19,9 +19,15 @@ use std::sync::{Arc, Wait};
 
 /// Who sends the checkpoints of a pair to its backup, and hands in what is acknowledged. It has no seat: what its calls do is said at the
 /// book, by [`Book::next`] and [`Book::acked`].
-#[derive(Drop)]
 pub struct Sender<P: Pair> {
     shared: Arc<Shared<P>>,
+}
+
+// Proved here, and not in each crate above that keeps one in a `Box` or an `Option`.
+impl<P: Pair> Drop for Sender<P> {
+    fn drop(self) {
+        let Sender { shared: _ } = self;
+    }
 }
 
 /// As [`Book::next`] says.

@@ -45,11 +45,21 @@ pub enum Node {
 /// Who says which node has failed, makes a backup go live, and gives a node that is alone a new one. It has no seat: what else its calls
 /// do is said at the book, by [`Book::fail_primary`], [`Book::fail_backup`], [`Book::go_live`] and [`Book::protect`].
 /// Contracts see the pair's shape.
-#[derive(Drop)]
 pub struct Warden<P: Pair> {
     alloc: Global,
     shared: Arc<Shared<P>>,
     shape: Shape,
+}
+
+// Proved here, and not in each crate above that keeps one in a `Box` or an `Option`.
+impl<P: Pair> Drop for Warden<P> {
+    fn drop(self) {
+        let Warden {
+            alloc: _,
+            shared: _,
+            shape: _,
+        } = self;
+    }
 }
 
 impl<P: Pair> Model for Warden<P> {

@@ -23,11 +23,21 @@ pub const LINE_SEAT: u64 = 3;
 ///
 /// A call makes one step or none, as its clauses say, and after a refusal nothing has changed, the lent seat included; only a delivery
 /// refused [`Refusal::Full`](crate::Refusal::Full) is told by an entry.
-#[derive(Drop)]
 pub struct Book<P: Pair> {
     pub(crate) record: PairRecord,
     pub(crate) seats: Seats<P>,
     pub(crate) texts: Texts,
+}
+
+// Proved here, and not in each crate above that keeps one in a `Box` or an `Option`.
+impl<P: Pair> Drop for Book<P> {
+    fn drop(self) {
+        let Book {
+            record: _,
+            seats: _,
+            texts: _,
+        } = self;
+    }
 }
 
 impl<P: Pair> Model for Book<P> {

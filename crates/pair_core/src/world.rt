@@ -19,7 +19,6 @@ use std::marker::Model;
 const WORD_FULL: bool = false;
 
 /// A protected pair: its record, the lines between its two nodes, and their machines. Contracts see it as a `Pair` of the specs.
-#[derive(Drop)]
 pub struct World {
     alloc: Global,
     boot_image: Vec<u8>,
@@ -28,6 +27,21 @@ pub struct World {
     record: PairRecord,
     lines: Lines,
     nodes: Nodes,
+}
+
+// Proved here, and not in each crate above that keeps one in a `Box` or an `Option`.
+impl Drop for World {
+    fn drop(self) {
+        let World {
+            alloc: _,
+            boot_image: _,
+            shape: _,
+            clients: _,
+            record: _,
+            lines: _,
+            nodes: _,
+        } = self;
+    }
 }
 
 impl Model for World {
