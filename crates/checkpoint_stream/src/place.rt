@@ -7,7 +7,7 @@ ghost use Rattle.checkpoint_stream.specs.Taken.{is_at_frame};
 use crate::rules::HEAD_NUMBERS;
 
 /// The unit that comes next.
-#[derive(Clone, Copy, PartialEq, Eq)]
+#[derive(Clone, Copy)]
 pub enum Place {
     /// A number of the head.
     Head,

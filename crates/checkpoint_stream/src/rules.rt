@@ -9,7 +9,7 @@ use guest_rules::Shape;
 use mtraps::legal_value;
 
 /// How many bytes a number takes.
-#[derive(Clone, Copy, PartialEq, Eq)]
+#[derive(Clone, Copy)]
 pub enum Width {
     Two,
     Four,

@@ -1,5 +1,5 @@
 //! What a cut records of memory.
-ghost use Rattle.std.specs.Prelude.{◌≡◌, ℕ, ◌+◌, ◌*◌, ◌<◌, ◌≤◌, ◌^◌, false, length, [], ◌∷◌, ◌++◌, map, vec_capacity, OnOk};
+ghost use Rattle.std.specs.Prelude.{◌≡◌, ◌+◌, ◌*◌, ◌<◌, ◌≤◌, false, length, [], ◌∷◌, ◌++◌, map, vec_capacity, OnOk};
 ghost use Rattle.guest_rules.specs.Limits.{page_bytes};
 ghost use Rattle.epoch_snapshot.specs.Blocks.{IsPageIn, set_blocks, xored, block_in, changed_mask};
 ghost use Rattle.epoch_snapshot.specs.Cuts.{changed_pages, changed_blocks};

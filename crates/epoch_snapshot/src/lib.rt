@@ -3,6 +3,7 @@
 //! A [`Checkpoint`] states the hart, its timer and both devices' records whole, and of memory and disk what changed: the blocks of
 //! 64 bytes that differ, each as the old block XOR the new one, and the sectors that were written. It is canonical by its type, so
 //! that one change has one checkpoint. What a checkpoint makes of a guest is its image (`image_of` of the specs).
+//! Machines are cut by the crate `epoch_cuts`.
 #![tactic(auto)]
 
 mod changes;

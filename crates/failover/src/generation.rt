@@ -16,7 +16,6 @@ pub const GENERATION_LIMIT: u64 = 4611686018427387904;
 ///
 /// It can't be copied, nor let go: it isn't `Drop`. So whoever holds one has to give it to a call that spends it, and gets the next one, the
 /// same one with a refusal, or none from [`Generation::end`]. A node that goes live has spent its generation, and can't do so again.
-
 pub struct Generation {
     number: u64,
     mode: Mode,

@@ -36,8 +36,8 @@ fn page_mask(machine: &Machine, page: u32) -> u64
     mask
 }
 
-/// Which blocks of four pages in turn aren't all zero. It goes over them side by side: so memory gives them in four fifths of the time that they
-/// take one after another, since a processor fetches ahead in each page by itself.
+/// Which blocks of four pages in turn aren't all zero. It goes over them side by side: memory gives them in four fifths of the time that
+/// they take one after another, since a processor fetches ahead in each page by itself.
 fn four_masks(machine: &Machine, page: u32) -> [u64; 4]
     requires few { page + 4 < 2 ^ 32 }
     requires size { page_bytes * page + 4 * page_bytes ≤ length machine.now.guest.ram }

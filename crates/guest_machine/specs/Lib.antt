@@ -7,16 +7,3 @@ pub mod PageOps
 pub mod Parts
 pub mod Stretches
 pub mod Walks
--- what public clauses cite of lower crates
-pub use Rattle.arrayvec.specs.ArrayVec
-pub use Rattle.block_device.specs.Contents
-pub use Rattle.block_device.specs.Dirty
-pub use Rattle.block_device.specs.Disk
-pub use Rattle.block_device.specs.Listed
-pub use Rattle.mtraps.specs.CsrTable
-pub use Rattle.net_device.specs.Frames
-pub use Rattle.net_device.specs.Receive
-pub use Rattle.paged_memory.specs.Bytes
-pub use Rattle.paged_memory.specs.Pages
-pub use Rattle.rv64_core.specs.Registers
-pub use Rattle.virtio_mmio.specs.States

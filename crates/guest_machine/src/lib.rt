@@ -2,7 +2,7 @@
 //!
 //! [`Machine::boot`] makes the machine, [`Machine::step`] takes an interrupt or runs one instruction, [`Machine::outbox`] gives the frames
 //! that the guest sent since the last [`Machine::settle`], and [`Machine::arrive`] has one arrive at it. Contracts see a machine as a
-//! `State` of the specs: its `Guest`, a record of plain data, its outbox, the list of the written sectors, the bytes of memory at the
+//! `State` of guest_rules's specs: its `Guest`, a record of plain data, its outbox, the list of the written sectors, the bytes of memory at the
 //! last settle, and a flag for each page that was written since.
 //!
 //! [`Machine::state`], [`Machine::page`] and [`Machine::sector`] give all that a checkpoint states; [`Machine::put_state`],

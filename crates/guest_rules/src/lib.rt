@@ -1,8 +1,8 @@
-//! What a guest is: all that one RISC-V hart in machine mode and its devices hold, and what one step of them does.
+//! The rules of the guest: what a hart in machine mode and its devices hold, and what one step does.
 //!
-//! The specs are the rules that a machine follows: `Guest` and `State`, a step (`next`, what it sends and which sectors it marks), a run of
-//! steps, a frame that arrives, and the part of a guest that a checkpoint states whole. The functions are laws of them. That a machine keeps to
-//! the rules is the contract of the crate `guest_machine`; who speaks of guests and runs none needs this crate alone.
+//! The specs are the rules that a machine follows: `Guest` and `State`, a step (`next`, what it sends and which sectors it marks), a run
+//! of steps, a frame that arrives, and the part of a guest that a checkpoint states whole. The functions are laws of them. That a machine
+//! keeps to the rules is the contract of the crate `guest_machine`; a crate that speaks of guests and runs none needs this one alone.
 #![tactic(auto)]
 
 mod laws;

@@ -59,7 +59,7 @@ fn says(rt: &impl Abort, word: u32, instr: Instr) {
     assert_written(rt, word, instr);
 }
 
-/// What is read of a word is an instruction, and its word is that one.
+/// A word is read as an instruction whose word it is. Which one, the walk compares.
 fn assert_read(rt: &impl Abort, word: u32) {
     let same = match decode(word) {
         Some(instr) => encode(instr) == word,

@@ -1,5 +1,5 @@
 -- A PRIMARY AS ITS CALLS SEE IT: what a run of two nodes tells of it, and a flag for each page of its guest, whether the page was written
--- since the last cut. The flags are the machine's own (State of guest_machine): none is set where it was just settled, as at a cut, at a
+-- since the last cut. The flags are the machine's own (State of guest_rules): none is set where it was just settled, as at a cut, at a
 -- full checkpoint and where a primary begins; from then on none is taken away, and a page without one is as it was. What may happen at two
 -- nodes says nothing of them.
 use Rattle.std.specs.Prelude.{ℕ, Bool, false, List, length, replicate}

@@ -1,5 +1,5 @@
 //! The limits of the pair. Those of frames, clients, inboxes, boxes and numbers are `frame_ports`'s, those of the outbox and of
-//! memory and disk `guest_machine`'s, that of held epochs `output_gate`'s.
+//! memory and disk `guest_rules`'s, that of held epochs `output_gate`'s.
 ghost use Rattle.std.specs.Prelude.{◌≡◌};
 ghost use Rattle.pair_record.specs.Limits.{most_pending, step_frames, stepping_frames, lone_step_entries, first_generation};
 ghost use Rattle.pair_record.specs.Limits.{full_checkpoint, last_frame};

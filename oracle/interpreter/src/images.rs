@@ -2,7 +2,7 @@
 //! memory, both devices and the timer, with rings whose numbers are of the sequence too.
 //!
 //! `interpreter images COUNT` boots so many, runs each for 1000 steps, and folds all that they leave into one number. The test `images` of
-//! crates/guest_machine does the same.
+//! crates/machine_tests does the same.
 
 use crate::hart::Machine;
 
