@@ -1,17 +1,11 @@
--- A worked guest: it sets up the disk's queue with one request of three descriptors, and notifies it in step 23.
+-- A worked guest, by guest_kit's words: it sets up the disk's queue with one request of three descriptors, and notifies it in step 23.
 use Rattle.std.specs.Prelude.{◌≡◌, ℕ, List, [], ◌∷◌, ◌++◌, replicate}
 use Rattle.std.specs.List.{flat_map}
 use Rattle.byteorder.specs.Endian.{little_bytes}
 use Rattle.paged_memory.specs.Bytes.{number_at}
+use Rattle.guest_kit.specs.Disk.{disk_words}
 use Rattle.guest_rules.specs.Guest.{boot_guest}
 use Rattle.guest_rules.specs.Runs.{after_steps, marked_in}
-
--- LUI, ADDI, SW, LW and JAL; the 23rd word notifies queue 0, and the 24th jumps to itself
-abbrev pub disk_words : List ℕ
-disk_words =
-    0x100022b7 ∷ 0x00100313 ∷ 0x0662a823 ∷ 0x00300393 ∷ 0x0672a823 ∷ 0x0262a223 ∷ 0x0262a023 ∷ 0x00b00393
-    ∷ 0x0672a823 ∷ 0x0702a403 ∷ 0x0202a823 ∷ 0x00400393 ∷ 0x0272ac23 ∷ 0x800013b7 ∷ 0x0872a023 ∷ 0x04038393
-    ∷ 0x0872a823 ∷ 0x04038393 ∷ 0x0a72a023 ∷ 0x0462a223 ∷ 0x00f00393 ∷ 0x0672a823 ∷ 0x0402a823 ∷ 0x0000006f ∷ []
 
 -- a descriptor: its buffer's address and length, its flags, and the number of the next
 abbrev pub descriptor_bytes : ℕ → ℕ → ℕ → ℕ → List ℕ
