@@ -44,7 +44,7 @@ impl PairRecord {
         ensures frame { IfSome result (λ x. IsFrame x.1) }
         ensures protocol { IfSome result (λ x. self.new.protocol ≡ (hand_out_done self.old.protocol x.0).1) }
         ensures ports { OnSome result (self.new.ports ≡ ports_after_admit self.old.ports client) }
-        ensures none { IfNone result (IsAsBefore self.old self.new) }
+        ensures none { IfNone result (self.new ≡ self.old) }
         ensures room { self.old.arrival_room ≤ self.new.arrival_room + 1 }
     {
         if self.ports.inbox_len(client) == 0 {

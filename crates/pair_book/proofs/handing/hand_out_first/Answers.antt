@@ -55,7 +55,7 @@ returns-in_default-clause-done c =
     let inbox = list_of p.ports.inboxes client in
     let frames = c.loop-place.frames.items in
     let same = rw c.in_default.is at c.hand_out.ensures.none in
-    (λ i. handing (same.0 i) (same.1 i) frames)
+    (λ i. handing (same i).protocol (same i).ports frames)
     ∙ sym (ap (λ l. handed_all client l (handing p.protocol p.ports frames))
     (none-more (4 - c.loop-place.place) inbox (sym c.hand_out.ensures.first ∙ c.in_default.is)))
     ∙ c.loop-place.invariant.done
