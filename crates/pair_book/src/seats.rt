@@ -1,6 +1,6 @@
 //! The keeper's seat, and whose seats are live.
 ghost use Rattle.std.specs.Prelude.{◌≡◌, ◌+◌, ◌<◌, ◌^◌, ◌++◌, ◌∷◌, [], length};
-ghost use Rattle.growing_history.specs.LogState.{LegalSteps, IsNew, state_at, client_seat};
+ghost use Rattle.growing_history.specs.LogState.{LegalSteps, IsNew, state_at};
 ghost use Rattle.growing_history.specs.Steps.{Begins, WentLive, Protected, step, steps_by};
 ghost use Rattle.pair_book.specs.internal.Live.{AreLive, LeavesLive};
 

@@ -1,5 +1,5 @@
 //! The runner's epoch ends: it is told, and the next frames are handed out.
-ghost use Rattle.std.specs.Prelude.{◌≡◌, ◌+◌, ◌*◌, ◌<◌, ◌≤◌, ◌++◌, ◌∷◌, [], true, false, length, map, All, None, IfOk, OnOk, IfErr, OnErr};
+ghost use Rattle.std.specs.Prelude.{◌≡◌, ◌+◌, ◌*◌, ◌<◌, ◌≤◌, ◌++◌, ◌∷◌, [], false, length, map, All, None, IfOk, OnOk, IfErr, OnErr};
 ghost use Rattle.frame_ports.specs.Addresses.{IsFrame};
 ghost use Rattle.frame_ports.specs.Limits.{number_limit};
 ghost use Rattle.pair_history.specs.Entries.{Arrive};
@@ -9,7 +9,7 @@ ghost use Rattle.pair_record.specs.Limits.{most_pending};
 ghost use Rattle.pair_record.specs.Modes.{is_stopped as stopped};
 ghost use Rattle.pair_record.specs.Protocol.{first_refusal};
 ghost use Rattle.pair_record.specs.Record.{IsAsBefore as IsRecordAsBefore};
-ghost use Rattle.growing_history.specs.Steps.{step, Begins, steps_by};
+ghost use Rattle.growing_history.specs.Steps.{step, steps_by};
 ghost use Rattle.pair_book.specs.Calls.{Makes, IsAsBefore, IsWhy};
 ghost use Rattle.pair_book.specs.Handing.{handing, handed_next, HandsNext};
 ghost use Rattle.pair_book.specs.Made.{IsPrepared};

@@ -1,5 +1,5 @@
 //! The texts of the pending checkpoints.
-ghost use Rattle.std.specs.Prelude.{◌≡◌, ◌<◌, ◌≤◌, [], length, slice_get, IfOk, OnOk, OnErr, vec_len, vec_capacity};
+ghost use Rattle.std.specs.Prelude.{◌≡◌, ◌<◌, ◌≤◌, length, slice_get, IfOk, OnOk, OnErr, vec_capacity};
 ghost use Rattle.pair_record.specs.Limits.{most_pending};
 ghost use Rattle.pair_book.specs.Packets.{no_texts};
 ghost use Rattle.pair_book.specs.Texts.{is_after, first_packet_after, or_first, next_of, given_after, above, texts_above, with_text};

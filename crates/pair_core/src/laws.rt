@@ -2,7 +2,7 @@
 ghost use Rattle.std.specs.Prelude.{◌≡◌, ◌++◌, All, length, ℕ, List, Option, Some, slice_get};
 ghost use Rattle.guest_rules.specs.Guest.{Guest};
 ghost use Rattle.pair_record.specs.declared.event.Event.{Event};
-ghost use Rattle.pair_record.specs.declared.event.Event.TheVariants.{Cut, BackupGet, Deliver, GoLive, Protect, Take};
+ghost use Rattle.pair_record.specs.declared.event.Event.TheVariants.{Cut, BackupGet, GoLive, Protect, Take};
 ghost use Rattle.pair_record.specs.declared.event.Refusal.TheVariants.{Full};
 ghost use Rattle.pair_record.specs.declared.event.Reply.{Reply};
 ghost use Rattle.pair_record.specs.declared.event.Reply.TheVariants as replies;

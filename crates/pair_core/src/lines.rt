@@ -1,5 +1,5 @@
 //! The two lines between the nodes: each packet that was ever sent.
-ghost use Rattle.std.specs.Prelude.{◌≡◌, ◌+◌, ◌-◌, ◌^◌, ◌≤◌, ◌<◌, ◌++◌, ◌∷◌, [], map, OnOk, OnErr, Some, None, slice_get, slice_index_or};
+ghost use Rattle.std.specs.Prelude.{◌≡◌, ◌+◌, ◌-◌, ◌≤◌, ◌<◌, ◌++◌, map, OnOk, OnErr, Some, None, slice_get, slice_index_or};
 ghost use Rattle.pair_core.specs.Lines.{packet, packets_from, no_packets, with_forward, with_back};
 
 use lossy_line::{Line, LineError};

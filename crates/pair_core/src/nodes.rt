@@ -3,12 +3,11 @@
 //!
 //! A machine, an image or a checkpoint that is let go on one of several ways out goes by a call of `drop`: at the end of a scope the
 //! prover goes through each of its fields, on every such way, which took it half a minute for one function.
-ghost use Rattle.std.specs.Prelude.{◌≡◌, ◌+◌, ◌^◌, ◌≤◌, ◌<◌, ◌++◌, ◌∷◌, [], length, All, None, OnOk, OnErr, IfOk};
+ghost use Rattle.std.specs.Prelude.{◌≡◌, ◌^◌, ◌≤◌, ◌<◌, [], length, All, None, OnOk, IfOk};
 ghost use Rattle.std.specs.Prelude.{option_map, ◌-◌, ◌*◌};
 ghost use Rattle.frame_ports.specs.Addresses.{IsFrame};
-ghost use Rattle.guest_rules.specs.Guest.{Guest, boot_guest, sector_in};
+ghost use Rattle.guest_rules.specs.Guest.{Guest, sector_in};
 ghost use Rattle.guest_rules.specs.Limits.{page_bytes};
-ghost use Rattle.guest_rules.specs.Step.{arrived};
 ghost use Rattle.guest_rules.specs.Runs.{HaveRoom, sent_in};
 ghost use Rattle.epoch_snapshot.specs.Bases.{IsBase};
 ghost use Rattle.checkpoint_stream.specs.Readings.{begun, fed};

@@ -1,5 +1,5 @@
 //! The pair as one value, and what each event does to it.
-ghost use Rattle.std.specs.Prelude.{◌≡◌, ℕ, ◌+◌, ◌*◌, ◌≤◌, ◌<◌, length, IfOk, IfErr, IfSome, IfNone, OnErr, None, true, false, slice_get, ◌≢◌};
+ghost use Rattle.std.specs.Prelude.{◌≡◌, ◌*◌, ◌≤◌, ◌<◌, length, IfOk, IfErr, OnErr, None, false, slice_get, ◌≢◌};
 ghost use Rattle.memory_wanted.specs.Wanted.{wanted};
 
 mod clients;
@@ -64,13 +64,13 @@ impl World {
     ghost use Rattle.pair_history.specs.Entries.{Begins};
     ghost use Rattle.pair_history.specs.HistoryState.{start_state};
     ghost use Rattle.pair_record.specs.Modes.{mode_refusal};
-    ghost use Rattle.pair_record.specs.Protocol.{outcome, step_outcome};
-    ghost use Rattle.pair_core.specs.Answering.{AnswersEvent, MayWantMemory, step_reply};
+    ghost use Rattle.pair_record.specs.Protocol.{outcome};
+    ghost use Rattle.pair_core.specs.Answering.{AnswersEvent};
     ghost use Rattle.pair_core.specs.Done.{Does, DoesAllowed};
     ghost use Rattle.pair_core.specs.Pair.{Pair, OnRefused, IsConsistent};
     ghost use Rattle.pair_core.specs.Lines.{Protocol, start_protocol, got};
     ghost use Rattle.pair_core.specs.Along.{Along};
-    ghost use Rattle.pair_core.specs.Runs.{Run, steps_outcome, with_steps};
+    ghost use Rattle.pair_core.specs.Runs.{Run};
     ghost use Rattle.pair_core.specs.Drops.{Drops};
     ghost use Rattle.pair_core.specs.Replication.{Replicates, Leads};
     ghost use Rattle.pair_record.specs.declared.event.Event.{Event};
@@ -298,14 +298,11 @@ fn answered(outcome: Result<Reply, MemoryWanted>) -> Reply
 }
 
 impl World {
-    ghost use Rattle.frame_ports.specs.Limits.{number_limit};
     ghost use Rattle.pair_record.specs.declared.event.Event.TheVariants as events;
-    ghost use Rattle.pair_record.specs.Journal.{all_entries};
-    ghost use Rattle.pair_record.specs.Modes.{is_stopped as stopped, is_alone as alone, mode_refusal};
-    ghost use Rattle.pair_record.specs.Protocol.{refused, allowed, step_outcome};
+    ghost use Rattle.pair_record.specs.Modes.{mode_refusal};
+    ghost use Rattle.pair_record.specs.Protocol.{refused};
     ghost use Rattle.pair_core.specs.Done.{DoesAllowed};
     ghost use Rattle.pair_core.specs.Pair.{Pair};
-    ghost use Rattle.pair_core.specs.Runs.{steps_outcome, with_steps};
 
     /// The running epoch ends: its checkpoint is sealed as a text, and its frames go to the gate.
     fn cut(&mut self) -> Result<Reply, MemoryWanted>

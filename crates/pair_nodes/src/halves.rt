@@ -1,5 +1,5 @@
 //! What a node's calls answer and leave is what may happen at its half of a run.
-ghost use Rattle.std.specs.Prelude.{◌≡◌, ◌≤◌, ◌<◌, ◌++◌, ◌∷◌, ℕ, List, [], Ok, Err, Some, true, false, length, slice_get};
+ghost use Rattle.std.specs.Prelude.{◌≡◌, ◌≤◌, ◌<◌, ◌++◌, ◌∷◌, ℕ, List, [], Ok, Err, true, false, length};
 ghost use Rattle.checkpoint_stream.specs.declared.place.Place.TheVariants.{Whole};
 ghost use Rattle.pair_record.specs.declared.event.Packet.{Packet};
 ghost use Rattle.pair_record.specs.declared.event.Refusal.TheVariants.{CutNeeded};

@@ -1,5 +1,5 @@
 //! The numbers of the checkpoints that are under way.
-ghost use Rattle.std.specs.Prelude.{◌≡◌, ◌+◌, ◌-◌, ◌^◌, ◌≤◌, ◌<◌};
+ghost use Rattle.std.specs.Prelude.{◌≡◌, ◌+◌, ◌-◌, ◌^◌, ◌<◌};
 ghost use Rattle.pair_record.specs.Window.{start_window, with_cut, with_commit, with_acknowledged};
 ghost use Rattle.pair_record.specs.Window.{none_pending as none_pending_from};
 

@@ -1,7 +1,6 @@
 //! The actions of a client's line.
-ghost use Rattle.std.specs.Prelude.{◌≡◌, ◌<◌, ◌∷◌, [], ℕ, List, Some, IfOk, IfSome, IfNone, IsTrue};
+ghost use Rattle.std.specs.Prelude.{◌≡◌, ◌<◌, ◌∷◌, [], List, Some, IfOk, IfSome, IfNone, IsTrue};
 ghost use Rattle.std.specs.Prelude.{IsFalse, MatchOption, map, option_map, length};
-ghost use Rattle.script_player.specs.Delivery.{IsHex};
 ghost use Rattle.pair_run.specs.RunFile.{Action as SaidAction, AreActions, IsAction, fields_of};
 ghost use Rattle.pair_run.specs.Views.{action_of};
 

@@ -1,5 +1,5 @@
 //! What clients do, at the pair's record.
-ghost use Rattle.std.specs.Prelude.{◌≡◌, ◌<◌, ◌≤◌, ◌∷◌, [], length, IfOk, OnOk, IfErr, OnErr, IfSome, IsSome, ⊤, None, Some, false};
+ghost use Rattle.std.specs.Prelude.{◌≡◌, ◌<◌, ◌≤◌, length, IfOk, OnOk, IfErr, OnErr, IfSome, IsSome, ⊤, None, Some, false};
 ghost use Rattle.std.specs.Prelude.{slice_get};
 ghost use Rattle.frame_ports.specs.Addresses.{IsFrame};
 ghost use Rattle.frame_ports.specs.Limits.{box_frames, max_clients};
