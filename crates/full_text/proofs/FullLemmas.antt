@@ -70,7 +70,7 @@ full-widths shape m g h masks blocks sectors =
     record { state = h.state; registers = h.registers; masks = masks; blocks = blocks; sectors = sectors }
 
 -- how long the records of pages are
-four-bytes : (n : ℕ) → length (bytes_of Four n) ≡ 4
+pub four-bytes : (n : ℕ) → length (bytes_of Four n) ≡ 4
 unfolding bytes_of
 four-bytes n = refl
 

@@ -4,3 +4,4 @@ pub mod KeptLemmas
 pub mod TextLemmas
 pub mod FullLemmas
 pub mod PartLemmas
+pub mod SearchLemmas

@@ -12,7 +12,7 @@ use Rattle.std.specs.{Prelude.{◌↔◌, IsTrue}, List.range_with_len, Simd.Lan
 use Rattle.guest_rules.specs.Pages.{page_of}
 use Rattle.epoch_snapshot.specs.Blocks.{IsPageIn, block_in, block_differs, changed_mask, differ}
 use Rattle.full_text.specs.Full.{zeros}
-use Rattle.full_text.specs.internal.UsedBlocks.{used_flags, used_mask}
+use Rattle.full_text.specs.UsedPages.{used_flags, used_mask}
 use Rattle.full_text.proofs.RecordLemmas.{length-block}
 
 zero_block : (m n : ℕ) → 64 * n + 64 ≤ m → block_in (replicate m 0) n ≡ replicate 64 0

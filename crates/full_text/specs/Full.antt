@@ -18,6 +18,7 @@ use Rattle.checkpoint_stream.specs.HeadTable.{bytes_of}
 use Rattle.checkpoint_stream.specs.ReadBack.{ReadsBack}
 use Rattle.checkpoint_stream.specs.Text.{joined}
 use Rattle.checkpoint_stream.specs.declared.rules.Width.TheVariants.{Four, Eight}
+use Rattle.full_text.specs.UsedPages.{used_pages}
 
 -- a memory of that size that is all zero, over which a full checkpoint is cut
 abbrev pub zeros : List ℕ → List ℕ
@@ -74,9 +75,41 @@ whole ram f = f.made ++ (page_records (page_at ram f.kept) f.pages ++ f.tail)
 abbrev pub size : Making → ℕ
 size f = length f.made + (records_size f.pages + length f.tail)
 
+-- what is left of it is the same of what a machine has now as of what it had at its last settle
+abbrev pub IsSame : State → Making → Type 0
+IsSame m f = whole m.guest.ram f ≡ whole m.settled f
+
 -- so many bytes of it are made, or all
 abbrev pub IsMadeTo : ℕ → Making → Type 0
 IsMadeTo count f = length f.made < count → (f.pages ≡ []) × (f.tail ≡ [])
+
+-- A TEXT WHOSE PAGES ARE SEARCHED FOR: the bytes in front of the pages' count, the pages that are found, of the first ones of how many, what is
+-- kept of pages by their indices, and what stands behind the records
+pub record Searching : Type 0 where
+  pub head : List ℕ
+  pub found : List PageChange
+  pub looked : ℕ
+  pub pages : ℕ
+  pub kept : List (Option (List ℕ))
+  pub tail : List ℕ
+
+-- over the memory that has what isn't kept: the text once its pages are found; what is found is what there is to find; and the most bytes that
+-- it has
+abbrev pub found_of : List ℕ → Searching → Making
+found_of ram s =
+    let pages = used_pages (page_at ram s.kept) s.pages in
+    record { made = s.head ++ bytes_of Four (length pages); pages = pages; kept = s.kept; tail = s.tail }
+
+pub record SearchFits (ram : List ℕ) (s : Searching) : Type 0 where
+  pub found : s.found ≡ used_pages (page_at ram s.kept) s.looked
+  pub size : length ram ≡ page_bytes * s.pages
+
+abbrev pub most : Searching → ℕ
+most s = length s.head + 4 + most_record * s.pages + length s.tail
+
+-- so many bytes are enough for a text of a memory of so many pages, and no more than a record for each of them beside what it has
+abbrev pub AreEnough : ℕ → List ℕ → ℕ → Type 0
+AreEnough bytes text pages = (length text ≤ bytes) × (bytes ≤ length text + most_record * pages)
 
 -- a text that reads back as the full checkpoint of a machine, number 0 of this generation, which makes its guest of any
 pub record IsFullText (m : State) (generation : ℕ) (text : List ℕ) : Type 0 where

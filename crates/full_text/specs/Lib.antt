@@ -1,3 +1,5 @@
 pub mod internal
 pub mod Full
 pub mod MachineTexts
+pub mod Stages
+pub mod UsedPages

@@ -1,7 +1,8 @@
 -- A machine, and the texts of its checkpoints that are pending.
-use Rattle.std.specs.Prelude.{◌≡◌, ℕ, ◌^◌, List, [], Option, None, Some, length, replicate, false}
+use Rattle.std.specs.Prelude.{ℕ, ◌^◌, List, [], Option, None, Some, length, replicate, false}
 use Rattle.guest_rules.specs.Guest.{State}
-use Rattle.full_text.specs.Full.{Making, whole}
+use Rattle.full_text.specs.Stages.{made}
+use Rattle.full_text.specs.declared.stage.FullStage.{FullStage}
 
 -- so many texts have room
 abbrev pub most_texts : ℕ
@@ -12,12 +13,12 @@ pub record Texts : Type 0 where
   -- each of them whole
   pub texts : List (List ℕ)
   -- the first one, where it is a full checkpoint's, which may be made in part
-  pub full : Option Making
+  pub full : Option FullStage
 
 -- how many bytes of the full text are made
-abbrev pub made_bytes : Option Making → ℕ
+abbrev pub made_bytes : Option FullStage → ℕ
 made_bytes None = 0
-made_bytes (Some f) = length f.made
+made_bytes (Some f) = length (made f)
 
 -- and how many more are made where a part of it is asked for
 abbrev pub ahead : ℕ
@@ -26,7 +27,3 @@ ahead = 2 ^ 20
 -- a machine that is settled
 abbrev pub settled_at : State → State
 settled_at m = record m { outbox = []; dirty = []; settled = m.guest.ram; written = replicate (length m.written) false }
-
--- what is left of the full text is the same of what memory has now: the machine may be settled
-abbrev pub IsKept : State → Making → Type 0
-IsKept m f = whole m.guest.ram f ≡ whole m.settled f

@@ -2,6 +2,6 @@
 pub mod CutRecords
 pub mod Fields
 pub mod KeptFields
+pub mod SearchFields
 pub mod TailFields
 pub mod TextFields
-pub mod UsedBlocks

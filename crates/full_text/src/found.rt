@@ -1,15 +1,13 @@
-//! Which pages of a machine aren't all zero.
-ghost use Rattle.std.specs.Prelude.{◌≡◌, ◌+◌, ◌*◌, ◌^◌, ◌≤◌, ◌<◌, ◌++◌, ◌∷◌, [], ◌==◌, length, if◌then◌else◌, OnOk};
+//! Which pages of a machine weren't all zero at its last settle.
+ghost use Rattle.std.specs.Prelude.{◌≡◌, ◌+◌, ◌*◌, ◌^◌, ◌≤◌, ◌<◌, ◌++◌, ◌∷◌, [], ◌==◌, length, if◌then◌else◌, vec_capacity};
 ghost use Rattle.guest_rules.specs.Limits.{page_bytes};
-ghost use Rattle.epoch_snapshot.specs.Blocks.{changed_mask};
-ghost use Rattle.epoch_snapshot.specs.Cuts.{changed_pages};
-ghost use Rattle.full_text.specs.Full.{zeros};
-ghost use Rattle.full_text.specs.internal.UsedBlocks.{used_mask};
+ghost use Rattle.full_text.specs.Full.{page_at};
+ghost use Rattle.full_text.specs.UsedPages.{used_mask, used_pages};
 
-use crate::records::block;
-use epoch_snapshot::{PageChange, changes_are_found_in_turn, pages_are_their_blocks};
+use crate::kept::KeptPages;
+use crate::records::{block, page_of};
+use epoch_snapshot::PageChange;
 use guest_machine::Machine;
-use memory_wanted::{MemoryWanted, push};
 use page_lanes::{Page, is_zero};
 
 /// The mask of the first blocks of a page that aren't all zero, with one block more.
@@ -23,32 +21,28 @@ fn with_block(mask: u64, page: &Page, number: u32) -> u64
 }
 
 /// Which blocks of a page aren't all zero. It goes over memory in the order in which it stands there, and looks at nothing beside it.
-fn page_mask(machine: &Machine, page: u32) -> u64
-    requires { page_bytes * page + page_bytes ≤ length machine.now.guest.ram }
-    ensures { result ≡ changed_mask (zeros machine.now.guest.ram) machine.now.guest.ram page }
+fn page_mask(page: &Page) -> u64
+    ensures { result ≡ used_mask page.now 64 }
 {
-    pages_are_their_blocks();
-    let bytes = machine.page(page);
     let mut mask = 0;
     for number in 0..64 {
-        mask = with_block(mask, bytes, number);
+        mask = with_block(mask, page, number);
     }
     mask
 }
 
 /// Which blocks of four pages in turn aren't all zero. It goes over them side by side: memory gives them in four fifths of the time that
 /// they take one after another, since a processor fetches ahead in each page by itself.
-fn four_masks(machine: &Machine, page: u32) -> [u64; 4]
+fn four_masks(machine: &Machine, kept: &KeptPages, page: u32) -> [u64; 4]
     requires few { page + 4 < 2 ^ 32 }
     requires size { page_bytes * page + 4 * page_bytes ≤ length machine.now.guest.ram }
-    ensures { let ram = machine.now.guest.ram in result ≡ changed_mask (zeros ram) ram page ∷ changed_mask (zeros ram) ram (page + 1)
-        ∷ changed_mask (zeros ram) ram (page + 2) ∷ changed_mask (zeros ram) ram (page + 3) ∷ [] }
+    ensures { let bytes = page_at machine.now.settled kept.now in result ≡ used_mask (bytes page) 64 ∷ used_mask (bytes (page + 1)) 64
+        ∷ used_mask (bytes (page + 2)) 64 ∷ used_mask (bytes (page + 3)) 64 ∷ [] }
 {
-    pages_are_their_blocks();
-    let first = machine.page(page);
-    let second = machine.page(page + 1);
-    let third = machine.page(page + 2);
-    let fourth = machine.page(page + 3);
+    let first = page_of(machine, kept, page);
+    let second = page_of(machine, kept, page + 1);
+    let third = page_of(machine, kept, page + 2);
+    let fourth = page_of(machine, kept, page + 3);
     let (mut a, mut b, mut c, mut d) = (0, 0, 0, 0);
     for number in 0..64 {
         a = with_block(a, first, number);
@@ -59,54 +53,63 @@ fn four_masks(machine: &Machine, page: u32) -> [u64; 4]
     [a, b, c, d]
 }
 
-/// Puts a page of this mask last, unless the mask names no block.
-fn add_page(pages: &mut Vec<PageChange>, page: u32, mask: u64) -> Result<(), MemoryWanted>
-    ensures few { OnOk result (length pages.new.items ≤ length pages.old.items + 1) }
-    ensures pages { OnOk result (pages.new.items ≡ pages.old.items ++ (if mask == 0 then [] else record { page = page; mask = mask } ∷ [])) }
+/// Puts a page of this mask last in a list that has room for it, unless the mask names no block.
+fn add_page(pages: &mut Vec<PageChange>, page: u32, mask: u64)
+    requires { length pages.old.items < vec_capacity pages.old }
+    ensures few { length pages.new.items ≤ length pages.old.items + 1 }
+    ensures pages { pages.new.items ≡ pages.old.items ++ (if mask == 0 then [] else record { page = page; mask = mask } ∷ []) }
+    ensures room { vec_capacity pages.old ≤ vec_capacity pages.new }
 {
     if mask != 0 {
-        push(pages, PageChange { page, mask })?;
+        match pages.push(PageChange { page, mask }) {
+            Ok(()) => {}
+            Err(_) => unreachable!(),
+        }
     }
-    Ok(())
 }
 
-/// Puts those of four pages in turn last that aren't all zero, behind those of the pages before them. After an error it put some of them.
-fn add_four(machine: &Machine, page: u32, pages: &mut Vec<PageChange>) -> Result<(), MemoryWanted>
+/// Puts those of four pages in turn last that aren't all zero, behind those of the pages before them.
+fn add_four(machine: &Machine, kept: &KeptPages, page: u32, pages: &mut Vec<PageChange>)
     requires few { page + 4 < 2 ^ 32 }
     requires size { page_bytes * page + 4 * page_bytes ≤ length machine.now.guest.ram }
-    requires so_far { pages.old.items ≡ changed_pages (zeros machine.now.guest.ram) machine.now.guest.ram page }
-    ensures few { OnOk result (length pages.new.items ≤ length pages.old.items + 4) }
-    ensures pages { OnOk result (pages.new.items ≡ changed_pages (zeros machine.now.guest.ram) machine.now.guest.ram (page + 4)) }
+    requires so_far { pages.old.items ≡ used_pages (page_at machine.now.settled kept.now) page }
+    requires room { length pages.old.items + 4 ≤ vec_capacity pages.old }
+    ensures few { length pages.new.items ≤ length pages.old.items + 4 }
+    ensures pages { pages.new.items ≡ used_pages (page_at machine.now.settled kept.now) (page + 4) }
+    ensures room { vec_capacity pages.old ≤ vec_capacity pages.new }
 {
-    changes_are_found_in_turn();
-    let [a, b, c, d] = four_masks(machine, page);
-    add_page(pages, page, a)?;
-    add_page(pages, page + 1, b)?;
-    add_page(pages, page + 2, c)?;
-    add_page(pages, page + 3, d)
+    let [a, b, c, d] = four_masks(machine, kept, page);
+    add_page(pages, page, a);
+    add_page(pages, page + 1, b);
+    add_page(pages, page + 2, c);
+    add_page(pages, page + 3, d);
 }
 
-/// Puts those of the first `count` pages that aren't all zero into an empty list, each with the mask of its blocks that aren't. After an
-/// error it holds some of them.
-pub(crate) fn used_pages(
+/// Puts those of the pages from `from` up to `to` last that weren't all zero, each with the mask of its blocks that weren't, behind those of the
+/// pages before them. The list has room for all.
+pub(crate) fn find_pages(
     machine: &Machine,
-    count: u32,
+    kept: &KeptPages,
+    from: u32,
+    to: u32,
     pages: &mut Vec<PageChange>,
-) -> Result<(), MemoryWanted>
-    requires size { page_bytes * count ≤ length machine.now.guest.ram }
-    requires empty { pages.old.items ≡ [] }
-    ensures few { OnOk result (length pages.new.items ≤ count) }
-    ensures pages { OnOk result (pages.new.items ≡ changed_pages (zeros machine.now.guest.ram) machine.now.guest.ram count) }
+)
+    requires order { from ≤ to }
+    requires size { page_bytes * to ≤ length machine.now.guest.ram }
+    requires so_far { pages.old.items ≡ used_pages (page_at machine.now.settled kept.now) from }
+    requires few { length pages.old.items ≤ from }
+    requires room { to ≤ vec_capacity pages.old }
+    ensures few { length pages.new.items ≤ to }
+    ensures pages { pages.new.items ≡ used_pages (page_at machine.now.settled kept.now) to }
+    ensures room { vec_capacity pages.old ≤ vec_capacity pages.new }
 {
-    changes_are_found_in_turn();
-    let mut page = 0;
-    while count - page >= 4 {
-        add_four(machine, page, pages)?;
+    let mut page = from;
+    while to - page >= 4 {
+        add_four(machine, kept, page, pages);
         page += 4;
     }
-    while page < count {
-        add_page(pages, page, page_mask(machine, page))?;
+    while page < to {
+        add_page(pages, page, page_mask(page_of(machine, kept, page)));
         page += 1;
     }
-    Ok(())
 }

@@ -5,26 +5,24 @@ ghost use Rattle.guest_rules.specs.Flags.{KeepsFlags};
 ghost use Rattle.guest_rules.specs.Limits.{stepping_frames};
 ghost use Rattle.guest_rules.specs.Runs.{HaveRoom, after_steps, marked_in, sent_in};
 ghost use Rattle.guest_rules.specs.Step.{arrived};
-ghost use Rattle.full_text.specs.Full.{AreIn, IsMadeTo, most_record, part_of, whole};
-ghost use Rattle.full_text.specs.MachineTexts.{IsKept, ahead, made_bytes, most_texts, settled_at};
+ghost use Rattle.full_text.specs.Full.{SearchFits, found_of, most_record, part_of, whole};
+ghost use Rattle.full_text.specs.MachineTexts.{ahead, made_bytes, most_texts, settled_at};
+ghost use Rattle.full_text.specs.Stages.{IsKept, IsReadyTo};
 ghost use Rattle.full_text.specs.internal.TextFields.{FullFits, full_count, texts_of};
 
 use crate::rows::{part_of, put_last};
-use crate::text::FullText;
+use crate::search::PageSearch;
+use crate::stage::FullStage;
 use guest_machine::{Frame, Machine};
 use memory_wanted::MemoryWanted;
 use std::marker::Model;
-
-/// So many bytes more of a full text are made where a part of it is asked for. So one that is fetched in small parts is whole long before it
-/// is fetched, and few of its pages have to be kept where the machine is settled.
-const AHEAD: u64 = 1 << 20;
 
 /// A machine, and at most four texts of its checkpoints. Contracts see each text whole. The first may be that of a full checkpoint, which is made
 /// as it is asked for: of the memory that the machine had at its last settle, and of what is kept of what it had before.
 #[derive(Drop)]
 pub struct MachineTexts {
     machine: Machine,
-    full: Option<FullText>,
+    full: Option<FullStage>,
     /// The texts behind the full one.
     texts: Vec<Vec<u8>>,
 }
@@ -129,20 +127,19 @@ impl MachineTexts {
         ensures machine { self.new.machine ≡ settled_at self.old.machine }
         ensures texts { self.new.texts ≡ self.old.texts ++ text.items ∷ [] }
     {
-        let _shape = self.machine.shape();
-        self.machine.settle();
+        settle(&mut self.machine, &self.full);
         put_last(&mut self.texts, text);
     }
 
     /// The machine is settled, and the text of its full checkpoint, of the memory that it has now, is the only one.
-    pub fn settle_at(&mut self, full: FullText)
-        requires pages { AreIn (length self.old.machine.guest.ram) full.pages }
+    pub fn settle_at(&mut self, full: PageSearch)
+        requires fits { SearchFits self.old.machine.guest.ram full }
         ensures machine { self.new.machine ≡ settled_at self.old.machine }
-        ensures texts { self.new.texts ≡ whole self.old.machine.guest.ram full ∷ [] }
+        ensures texts { let ram = self.old.machine.guest.ram in self.new.texts ≡ whole ram (found_of ram full) ∷ [] }
     {
         self.texts.clear();
         self.machine.settle();
-        self.full = Some(full);
+        self.full = Some(FullStage::Search(full));
     }
 
     /// Lets go of the first `count` texts.
@@ -166,12 +163,13 @@ impl MachineTexts {
         self.texts.clear();
     }
 
-    /// Makes more of the full text, if one is made in part: up to `count` bytes from place `from` on at least, or all of it. It makes a mebibyte
+    /// Makes more of the full text, if one is made in part: up to `count` bytes from place `from` on at least, or all of it. While its pages are
+    /// searched for, it looks at 1024 pages more, and at all that are left where bytes behind the head are wanted. Then it makes a mebibyte
     /// more or so far, whichever is further, and less than a page's record beside. It takes no memory.
     pub fn make(&mut self, from: u64, count: u64)
         ensures machine { self.new.machine ≡ self.old.machine }
         ensures texts { self.new.texts ≡ self.old.texts }
-        ensures made { IfSome self.new.full (IsMadeTo (from + count)) }
+        ensures made { IfSome self.new.full (IsReadyTo (from + count)) }
         ensures no_further { made_bytes self.new.full < max (made_bytes self.old.full + ahead) (from + count) + most_record }
     {
         make_ahead(&self.machine, &mut self.full);
@@ -182,19 +180,19 @@ impl MachineTexts {
     /// caller knows.
     pub fn part(&self, place: usize, from: u64, count: u64) -> &[u8]
         requires place { place < length self.now.texts }
-        requires made { IfSome self.now.full (IsMadeTo (from + count)) }
+        requires made { IfSome self.now.full (IsReadyTo (from + count)) }
         ensures { result.now ≡ part_of from count (slice_index_or self.now.texts place []) }
     {
         match &self.full {
             None => part_of(&self.texts[place], from, count),
-            Some(full) if place == 0 => made_part(full, from, count),
+            Some(full) if place == 0 => full.part(from, count),
             Some(_) => part_of(&self.texts[place - 1], from, count),
         }
     }
 }
 
 /// Lets go of the full text, if there is one. Answers how many that is.
-fn take_full(full: &mut Option<FullText>) -> usize
+fn take_full(full: &mut Option<FullStage>) -> usize
     ensures none { full.new ≡ None }
     ensures value { result ≡ full_count full.old }
 {
@@ -204,16 +202,8 @@ fn take_full(full: &mut Option<FullText>) -> usize
     }
 }
 
-/// Of a full text, which is made as far, the bytes from place `from` on, `count` of them or as many as there are.
-fn made_part(full: &FullText, from: u64, count: u64) -> &[u8]
-    requires { IsMadeTo (from + count) full.now }
-    ensures { (settled : List ℕ) → result.now ≡ part_of from count (whole settled full.now) }
-{
-    part_of(full.made(), from, count)
-}
-
 /// Keeps what of the full text is still to be made and the machine gives up where it is settled.
-fn keep(machine: &Machine, full: &mut Option<FullText>) -> Result<(), MemoryWanted>
+fn keep(machine: &Machine, full: &mut Option<FullStage>) -> Result<(), MemoryWanted>
     requires { FullFits machine.now full.old }
     ensures fits { FullFits machine.now full.new }
     ensures same { (texts : List (List ℕ)) → texts_of machine.now.settled full.new texts ≡ texts_of machine.now.settled full.old texts }
@@ -226,34 +216,41 @@ fn keep(machine: &Machine, full: &mut Option<FullText>) -> Result<(), MemoryWant
     }
 }
 
-/// Makes the next bytes of the full text.
-fn make_ahead(machine: &Machine, full: &mut Option<FullText>)
+/// The machine is settled, and the full text is the same: what is left of it is kept.
+fn settle(machine: &mut Machine, full: &Option<FullStage>)
+    requires fits { FullFits machine.old full.now }
+    requires kept { IfSome full.now (IsKept machine.old) }
+    ensures machine { machine.new ≡ settled_at machine.old }
+    ensures fits { FullFits machine.new full.now }
+    ensures same { (texts : List (List ℕ)) → texts_of machine.new.settled full.now texts ≡ texts_of machine.old.settled full.now texts }
+{
+    let _shape = machine.shape();
+    machine.settle();
+}
+
+/// Looks at the next pages for the full text, or makes its next bytes.
+fn make_ahead(machine: &Machine, full: &mut Option<FullStage>)
     requires { FullFits machine.now full.old }
     ensures fits { FullFits machine.now full.new }
     ensures same { (texts : List (List ℕ)) → texts_of machine.now.settled full.new texts ≡ texts_of machine.now.settled full.old texts }
     ensures no_further { made_bytes full.new < made_bytes full.old + ahead + most_record }
 {
-    let _shape = machine.shape();
-    match full {
-        None => {}
-        Some(full) => {
-            let made = full.made().len() as u64;
-            full.make_to(machine, made, AHEAD);
-        }
-    }
+    *full = match full.take() {
+        None => None,
+        Some(full) => Some(full.on(machine)),
+    };
 }
 
 /// Makes the full text up to `count` bytes from place `from` on, or all of it.
-fn make_to(machine: &Machine, full: &mut Option<FullText>, from: u64, count: u64)
+fn make_to(machine: &Machine, full: &mut Option<FullStage>, from: u64, count: u64)
     requires { FullFits machine.now full.old }
     ensures fits { FullFits machine.now full.new }
     ensures same { (texts : List (List ℕ)) → texts_of machine.now.settled full.new texts ≡ texts_of machine.now.settled full.old texts }
-    ensures made { IfSome full.new (IsMadeTo (from + count)) }
+    ensures made { IfSome full.new (IsReadyTo (from + count)) }
     ensures no_further { made_bytes full.old < made_bytes full.new → made_bytes full.new < from + count + most_record }
 {
-    let _shape = machine.shape();
-    match full {
-        None => {}
-        Some(full) => full.make_to(machine, from, count),
-    }
+    *full = match full.take() {
+        None => None,
+        Some(full) => Some(full.on_to(machine, from, count)),
+    };
 }

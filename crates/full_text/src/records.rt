@@ -77,7 +77,7 @@ fn put_blocks(text: &mut Vec<u8>, page: &Page, mask: u64)
 }
 
 /// What a page had: what is kept of it, or else what it had at the machine's last settle.
-fn page_of<'a>(machine: &'a Machine, kept: &'a KeptPages, page: u32) -> &'a Page
+pub(crate) fn page_of<'a>(machine: &'a Machine, kept: &'a KeptPages, page: u32) -> &'a Page
     requires { page_bytes * page + page_bytes ≤ length machine.now.guest.ram }
     ensures { result.now ≡ page_at machine.now.settled kept.now page }
 {
@@ -102,7 +102,7 @@ fn put_record(text: &mut Vec<u8>, bytes: &Page, change: PageChange)
 }
 
 /// Whether a text of so many bytes ends before `count` bytes from place `from` on.
-fn ends_before(size: usize, from: u64, count: u64) -> bool
+pub(crate) fn ends_before(size: usize, from: u64, count: u64) -> bool
     ensures yes { result ≡ true → size < from + count }
     ensures no { result ≡ false → from + count ≤ size }
 {
@@ -173,6 +173,26 @@ pub(crate) fn keep_pages(
 {
     for change in pages {
         keep_page(kept, machine, change.page)?;
+    }
+    Ok(())
+}
+
+/// Keeps what each page had at the machine's last settle that was written since and isn't kept yet. After an error some of them are kept. It
+/// goes over the pages that were written, and over no others.
+pub(crate) fn keep_written(
+    kept: &mut KeptPages,
+    machine: &Machine,
+    pages: u32,
+) -> Result<(), MemoryWanted>
+    requires all { length machine.now.guest.ram ≡ page_bytes * pages }
+    requires room { pages ≤ length kept.old }
+    ensures settled { (q : ℕ) → page_at machine.now.settled kept.new q ≡ page_at machine.now.settled kept.old q }
+    ensures same { OnOk result ((q : ℕ) → q < pages → IsSameIn machine.now kept.new q) }
+{
+    let mut page = machine.next_dirty(0);
+    while page < pages {
+        keep_page(kept, machine, page)?;
+        page = machine.next_dirty(page + 1);
     }
     Ok(())
 }

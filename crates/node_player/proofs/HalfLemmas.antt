@@ -30,7 +30,7 @@ pub record PrimaryLaws (s : Site) : Type 0 where
   pub alone : IsFree (alone_rows s.primary) → length s.primary.live.outbox ≤ 256
       → Happens s goes_alone (alone_site s) × ((alone_site s).primary ≡ after_alone s.primary)
   pub protect : (count : ℕ) (q : Primary) → IsProtected s.primary count q
-      → (text : List ℕ) × (length text ≡ count) × Happens s (protects text) (protect_site s text) × ((protect_site s text).primary ≡ q)
+      → (text : List ℕ) × (length text ≤ count) × Happens s (protects text) (protect_site s text) × ((protect_site s text).primary ≡ q)
   pub step : (count made : ℕ) (q : Primary) → s.primary.backed ≡ true → IsSteps count s.primary (Ok made) q
       → Happens s (steps made) (run_site made s) × ((run_site made s).primary ≡ q)
   pub full : (count : ℕ) (q : Primary) → IsSteps count s.primary (Err CutNeeded) q

@@ -283,7 +283,7 @@ fn protected<O: Sink>(primary: PrimaryNode, out: &mut O) -> (PrimaryNode, Result
     }
 }
 
-/// Prints the generation that begins, and how many bytes the full checkpoint's text has.
+/// Prints the generation that begins, and how many bytes the full checkpoint's text has at most.
 fn tell_protecting<O: Sink>(out: &mut O, generation: u64, bytes: u64) -> Result<(), Failed>
     ensures { IsPut (O.written out.old) (O.written out.new) result
         (line (codes "protecting" ∷ decimal generation ∷ decimal bytes ∷ [])) }

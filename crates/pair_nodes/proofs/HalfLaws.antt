@@ -69,12 +69,12 @@ alone_happens s free few =
     (has s.primary.backed one.0, few, refl)
 
 pub protect_happens : (s : Site) (count : ℕ) (q : Primary) → IsProtected s.primary count q
-    → (text : List ℕ) × (length text ≡ count) × Happens s (protects text) (protect_site s text) × ((protect_site s text).primary ≡ q)
+    → (text : List ℕ) × (length text ≤ count) × Happens s (protects text) (protect_site s text) × ((protect_site s text).primary ≡ q)
 protect_happens s count q x =
     let p = s.primary in
     let one = passed p.backed AlreadyPaired _ x.free in
     let two = passed (nat_le generation_limit (p.generation + 1)) Exhausted None one.1 in
-    (x.text, sym x.bytes, (one.0, last-generation p.generation two.0, x.full, refl), sym x.left)
+    (x.text, x.bytes.0, (one.0, last-generation p.generation two.0, x.full, refl), sym x.left)
 
 pub step_happens : (s : Site) (count made : ℕ) (q : Primary) → s.primary.backed ≡ true → IsSteps count s.primary (Ok made) q
     → Happens s (steps made) (run_site made s) × ((run_site made s).primary ≡ q)

@@ -24,7 +24,7 @@ pub fn what_a_primary_does_may_happen()
     ensures alone { (s : Site) → IsFree (alone_rows s.primary) → length s.primary.live.outbox ≤ 256
         → Happens s goes_alone (alone_site s) × ((alone_site s).primary ≡ after_alone s.primary) }
     ensures protect { (s : Site) (count : ℕ) (q : Primary) → IsProtected s.primary count q
-        → (text : List ℕ) × (length text ≡ count) × Happens s (protects text) (protect_site s text) × ((protect_site s text).primary ≡ q) }
+        → (text : List ℕ) × (length text ≤ count) × Happens s (protects text) (protect_site s text) × ((protect_site s text).primary ≡ q) }
     ensures step { (s : Site) (count made : ℕ) (q : Primary) → s.primary.backed ≡ true → IsSteps count s.primary (Ok made) q
         → Happens s (steps made) (run_site made s) × ((run_site made s).primary ≡ q) }
     ensures full { (s : Site) (count : ℕ) (q : Primary) → IsSteps count s.primary (Err CutNeeded) q

@@ -2,7 +2,7 @@
 ghost use Rattle.std.specs.Prelude.{◌≡◌, ◌≤◌, ◌<◌, ◌+◌, IfOk, IfErr, OnOk, length};
 ghost use Rattle.failover.specs.Generations.{generation_limit};
 ghost use Rattle.checkpoint_stream.specs.Bounds.{most_text};
-ghost use Rattle.full_text.specs.Full.{AreIn, size, whole};
+ghost use Rattle.full_text.specs.Full.{AreEnough, SearchFits, found_of, most, whole};
 ghost use Rattle.pair_nodes.specs.Flagged.{unwritten};
 ghost use Rattle.pair_nodes.specs.PrimaryCalls.{protect_rows, IsProtected};
 ghost use Rattle.pair_nodes.specs.Refusing.{IsFree, IsWhyOrMemory};
@@ -11,13 +11,14 @@ ghost use Rattle.pair_nodes.specs.Sides.{IsFull, after_protect};
 use super::PrimaryNode;
 use crate::generations::protected;
 use failover::GENERATION_LIMIT;
-use full_text::FullText;
+use full_text::PageSearch;
 use memory_wanted::MemoryWanted;
 use pair_core::Refusal;
 
 impl PrimaryNode {
     /// A new standby is to come, in the next generation, whose full checkpoint is number 0, and pending. The guest's frames are numbered
-    /// anew, and what it sent is let go: whoever lets that out has done so. Answers how many bytes the full checkpoint's text has.
+    /// anew, and what it sent is let go: whoever lets that out has done so. Answers how many bytes the full checkpoint's text has at most: what it
+    /// takes of the guest's memory isn't looked at before its bytes are asked for.
     ///
     /// # Errors
     /// In this order: [`Refusal::AlreadyPaired`] where it has a standby; [`Refusal::Exhausted`] where there is no next generation;
@@ -31,19 +32,20 @@ impl PrimaryNode {
         match self.full() {
             Err(why) => Err((self, why)),
             Ok(full) => {
-                let count = full.size();
-                Ok((self.protected(full), count))
+                let most = full.most();
+                Ok((self.protected(full), most))
             }
         }
     }
 
-    /// The text of the full checkpoint of its guest, in the next generation. Of memory it is only found what isn't all zero.
-    fn full(&self) -> Result<FullText, Refusal>
+    /// The text of the full checkpoint of its guest, in the next generation. Of memory nothing is looked at.
+    fn full(&self) -> Result<PageSearch, Refusal>
         ensures free { OnOk result (IsFree (protect_rows self.now.primary)) }
-        ensures text { IfOk result (λ full. IsFull self.now.primary (whole self.now.primary.live.guest.ram full)) }
-        ensures short { IfOk result (λ full. length (whole self.now.primary.live.guest.ram full) ≤ most_text self.now.primary.shape) }
-        ensures size { IfOk result (λ full. length (whole self.now.primary.live.guest.ram full) ≡ size full) }
-        ensures pages { IfOk result (λ full. AreIn (length self.now.primary.live.guest.ram) full.pages) }
+        ensures text { let ram = self.now.primary.live.guest.ram in IfOk result (λ full. IsFull self.now.primary (whole ram (found_of ram full))) }
+        ensures short { let ram = self.now.primary.live.guest.ram in IfOk result (λ full. length (whole ram (found_of ram full)) ≤ most_text self.now.primary.shape) }
+        ensures most { let ram = self.now.primary.live.guest.ram in
+            IfOk result (λ full. AreEnough (most full) (whole ram (found_of ram full)) self.now.primary.shape.pages) }
+        ensures fits { IfOk result (SearchFits self.now.primary.live.guest.ram) }
         ensures why { IfErr result (IsWhyOrMemory (protect_rows self.now.primary)) }
     {
         if self.is_backed() {
@@ -60,24 +62,25 @@ impl PrimaryNode {
     }
 
     /// That text, where there is a next generation.
-    fn full_text(&self) -> Result<FullText, MemoryWanted>
+    fn full_text(&self) -> Result<PageSearch, MemoryWanted>
         requires { self.now.primary.generation + 1 < generation_limit }
-        ensures text { IfOk result (λ full. IsFull self.now.primary (whole self.now.primary.live.guest.ram full)) }
-        ensures short { IfOk result (λ full. length (whole self.now.primary.live.guest.ram full) ≤ most_text self.now.primary.shape) }
-        ensures size { IfOk result (λ full. length (whole self.now.primary.live.guest.ram full) ≡ size full) }
-        ensures pages { IfOk result (λ full. AreIn (length self.now.primary.live.guest.ram) full.pages) }
+        ensures text { let ram = self.now.primary.live.guest.ram in IfOk result (λ full. IsFull self.now.primary (whole ram (found_of ram full))) }
+        ensures short { let ram = self.now.primary.live.guest.ram in IfOk result (λ full. length (whole ram (found_of ram full)) ≤ most_text self.now.primary.shape) }
+        ensures most { let ram = self.now.primary.live.guest.ram in
+            IfOk result (λ full. AreEnough (most full) (whole ram (found_of ram full)) self.now.primary.shape.pages) }
+        ensures fits { IfOk result (SearchFits self.now.primary.live.guest.ram) }
     {
         let generation = self.generation.number();
-        FullText::new(self.alloc, self.kept.machine(), generation + 1)
+        PageSearch::new(self.alloc, self.kept.machine(), generation + 1)
     }
 
     /// Its standby is to be filled by the full checkpoint of this text, which is pending.
-    fn protected(self, full: FullText) -> PrimaryNode
+    fn protected(self, full: PageSearch) -> PrimaryNode
         requires free { IsFree (protect_rows self.primary) }
-        requires short { length (whole self.primary.live.guest.ram full) ≤ most_text self.primary.shape }
-        requires pages { AreIn (length self.primary.live.guest.ram) full.pages }
-        ensures { result ≡ record {
-          primary = after_protect self.primary (whole self.primary.live.guest.ram full);
+        requires short { let ram = self.primary.live.guest.ram in length (whole ram (found_of ram full)) ≤ most_text self.primary.shape }
+        requires fits { SearchFits self.primary.live.guest.ram full }
+        ensures { let ram = self.primary.live.guest.ram in result ≡ record {
+          primary = after_protect self.primary (whole ram (found_of ram full));
           flags = unwritten self.flags;
         } }
     {

@@ -1,6 +1,6 @@
 -- Each mask has the flags of its page's blocks so far.
 use Rattle.std.proofs.Common.{◌≡◌}
-use Rattle.full_text.specs.internal.UsedBlocks.{used_mask}
+use Rattle.full_text.specs.UsedPages.{used_mask}
 use Rattle.full_text.proofs.found.four_masks.Given as goal
 
 abbrev pub invariant-loop-number : goal.invariant-loop-number

@@ -6,7 +6,7 @@ use Rattle.checkpoint_stream.specs.HeadTable.{head_table}
 use Rattle.checkpoint_stream.specs.Text.{head_numbers, number_units, joined, text}
 use Rattle.full_text.specs.Full.{blank}
 use Rattle.full_text.proofs.TextLemmas.{nothing, blank-spelled, length-nothing, front-of}
-use Rattle.full_text.proofs.text.head_of.Goals as goal
+use Rattle.full_text.proofs.search.head_of.Goals as goal
 
 pub overflow_sub-head : goal.overflow_sub-head
 overflow_sub-head c =
