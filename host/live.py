@@ -4,13 +4,12 @@ from collections import OrderedDict
 
 from host import messages
 from host.dead import Watch
-from host.node import STEPS, arrive
+from host.node import LOOK, PIECE, STEPS, arrive, looks, text_from
 from host.pacing import TRY_EVERY, Pacer
-from host.text import pages_and_frames
+from host.text import MOST_PAGE, pages_and_frames
 
 ALONE, FILLING, PAIRED = "alone", "filling", "paired"
 MOST_PENDING = 4  # checkpoints
-PIECE = 1 << 16  # bytes of a text that are asked for at a time
 QUICK = 100_000  # steps that take the node a fraction of a millisecond
 LATE = 0.1  # a guest that is so many seconds late isn't hurried any more
 QUIET = 0.1  # after so many seconds without a frame a guest that is alone runs in slices of SLOW, and one that is paired in epochs
@@ -20,11 +19,12 @@ CUT_NEEDED = b"13"  # the refusal of a step where the outbox is full
 
 
 class Pending:
-    """A checkpoint that isn't acknowledged: the bytes of its text, when it was cut, and whether it is known to hold no frames."""
-    __slots__ = ("total", "cut_at", "is_silent")
+    """A checkpoint that isn't acknowledged: the bytes of its text, or, unless `is_exact`, so many at the most; when it was cut; and whether
+    it is known to hold no frames."""
+    __slots__ = ("total", "is_exact", "cut_at", "is_silent")
 
-    def __init__(self, total, cut_at):
-        self.total, self.cut_at, self.is_silent = total, cut_at, False
+    def __init__(self, total, is_exact, cut_at):
+        self.total, self.is_exact, self.cut_at, self.is_silent = total, is_exact, cut_at, False
 
 
 class Live:
@@ -37,6 +37,9 @@ class Live:
         self.most_at_once = max(self.slice, QUICK)
         self.is_slow = self.most_at_once >= LONG * self.epoch_steps  # whether the guest makes all its steps of an epoch at its end
         self.generation, self.steps, self.mode = generation, steps, ALONE
+        self.pages = host.shape[0]  # of the guest's memory
+        self.to_look = 0  # by so many `text` lines the node has looked at all of them
+        self.beside_pages = 0  # bytes of the full checkpoint's text that are in no page's record
         self.session, self.standby = None, None  # the attachment's name, and who is attached: its name and instance
         self.pending, self.cut, self.acked = OrderedDict(), None, None
         self.sending, self.sent = 0, 0  # the checkpoint that is being sent, and how many of its bytes are
@@ -225,7 +228,7 @@ class Live:
         if not self.pending:
             self.acked_at = now
         self.cut = cut.number(2)
-        self.pending[self.cut] = Pending(cut.number(3), now)
+        self.pending[self.cut] = Pending(cut.number(3), True, now)
         self.pacer.was_cut()
         self.counts.epochs += 1
         self.counts.checkpoint_bytes += cut.number(3)
@@ -237,6 +240,12 @@ class Live:
 
     # What goes to the standby.
 
+    @property
+    def part_fetched(self):
+        """Of the full checkpoint's text, at least: until its end is here, of as many bytes as its pages may have. None while the node looks
+        for these, which takes no longer than some mebibytes of a text."""
+        return self.sent / self.pending[0].total if self.sending == 0 else 1.0
+
     def has_to_send(self):
         return self.cut is not None and self.sending <= self.cut and self.is_linked and self.link.has_room()
 
@@ -244,28 +253,42 @@ class Live:
         """Sends what there is to send, for a quarter of an epoch at the most."""
         end = now + self.epoch / 4
         while self.has_to_send():
-            answer = self.node.ask(f"text {self.sending} {self.sent} {PIECE}")
-            self.send_text(unhexlify(answer.words[1]), now)
+            if data := self.fetched(self.sending, self.sent, now):
+                self.send_text(data, now)
             now = self.link.now()
             if now >= end:
                 break
 
+    def fetched(self, number, begin, now):
+        """The next bytes of a pending checkpoint's text. Of the full one there are none yet until the node has looked at all the guest's
+        memory, some of it each time; and with its last ones it is known how long it is."""
+        if number == 0 and self.to_look:
+            self.node.ask(LOOK)
+            self.to_look, self.pacer.sent_at = self.to_look - 1, now
+            return b""
+        one, (data, is_last) = self.pending[number], text_from(self.node, number, begin)
+        if is_last and not one.is_exact:
+            one.total, one.is_exact = begin + len(data), True
+            self.counts.checkpoint_bytes += one.total
+        return data
+
     def send_text(self, data, now):
         number, begin = self.sending, self.sent
         one = self.pending[number]
-        total = one.total
         if begin == 0:
             if self.watch.see(data, number):
                 self.log.error("the guest can do nothing more: it {what}; pc {pc}, mcause {mcause}, mepc {mepc}".format(**self.watch.found))
-            pages, frames = pages_and_frames(data, total)
+            pages, frames = pages_and_frames(data, one.total)
             self.counts.checkpoint_pages += pages
             one.is_silent = frames == 0
+            if not one.is_exact:
+                one.total = self.beside_pages + MOST_PAGE * pages
             if not one.is_silent:
                 self.moved_at = now
         self.sent, self.pacer.sent_at = self.sent + len(data), now
-        if self.sent >= total:
+        if self.sent >= one.total:
             self.sending, self.sent, self.is_fetched = number + 1, 0, True
-        self.link.send(messages.text(self.session, self.generation, number, begin, total, data), now)
+        self.link.send(messages.text(self.session, self.generation, number, begin, one.total, data), now)
 
     def acknowledge(self, generation, number, now):
         """The standby has committed all up to this number."""
@@ -305,14 +328,14 @@ class Live:
         """A full checkpoint is cut, for a standby or a file: the next generation begins."""
         answer = self.node.ask("protect")
         self.generation, self.mode = answer.number(1), FILLING
-        self.pending = OrderedDict({0: Pending(answer.number(2), now)})
-        self.counts.checkpoint_bytes += answer.number(2)
+        self.pending = OrderedDict({0: Pending(answer.number(2), False, now)})
+        self.to_look, self.beside_pages = looks(self.pages), answer.number(2) - MOST_PAGE * self.pages
         self.cut, self.acked, self.sending, self.sent, self.is_fetched = 0, None, 0, 0, False
         self.acked_at = self.epoch_begun = now
         self.watch = Watch()
 
     def attach(self, session, standby, now):
-        if not self.is_stopped and (steps := self.steps_due(now)) > 0:  # since it stands while the checkpoint is made
+        if not self.is_stopped and (steps := self.steps_due(now)) > 0:  # since it stands while its disk is copied
             self.stepped(*self.tell(b"step %d" % steps), now)
         self.ran_at = now
         self.protect(now)

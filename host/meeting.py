@@ -111,7 +111,7 @@ class Meeting:
             return self.refuse(connection, f"the node refuses to protect: {refused}")
         host.counts.attachments += 1
         self.link.attach(connection, session, now)
-        self.log.info(f"{standby[0]} is the new standby: its full checkpoint of generation {live.generation} has "
+        self.log.info(f"{standby[0]} is the new standby: its full checkpoint of generation {live.generation} has at most "
                       f"{live.pending[0].total} bytes")
 
     # The side of a host that isn't live.

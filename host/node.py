@@ -12,6 +12,9 @@ SET_PIPE_SIZE = 1031  # F_SETPIPE_SZ
 MEMORY = {"MALLOC_MMAP_MAX_": "0", "MALLOC_TRIM_THRESHOLD_": str(256 << 20)}
 WITH_FRAMES, REFUSALS = {b"steps", b"acked", b"alone"}, {b"refused", b"bad"}
 STEPS, WRITTEN = 7, 9  # the places of these numbers in the answer to `show`
+PIECE = 1 << 16  # bytes of a text that are asked for at a time
+LOOK = "text 0 0 0"  # asks for no byte of the full checkpoint's text, so that the node looks at the guest's next pages for it
+LOOKED_AT = 1024  # pages, with each such line
 
 
 class NodeEnded(Exception):
@@ -127,3 +130,15 @@ def arrive(frame):
 
 def piece(data):
     return b"piece " + hexlify(data)
+
+
+def looks(pages):
+    """After how many lines that look a node has looked at so many pages."""
+    return -(-pages // LOOKED_AT)
+
+
+def text_from(node, number, begin):
+    """Of a pending checkpoint's text the bytes from this place on, a piece of them or as many as there are; and whether they are the last.
+    One byte more is asked for, which tells: how long a full checkpoint's text is isn't known before."""
+    data = unhexlify(node.ask(f"text {number} {begin} {PIECE + 1}").words[1])
+    return data[:PIECE], len(data) <= PIECE

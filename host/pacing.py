@@ -54,7 +54,7 @@ class Pacer:
     def __init__(self, live):
         self.live, self.pace = live, None
         self.is_counted = True  # whether what the pace knows to be written is all
-        self.sent_at = self.tried_at = 0.0  # when a part of a text was sent, and the guest was to make steps
+        self.sent_at = self.tried_at = 0.0  # when a part of a text was sent, or memory looked at for it; and the guest was to make steps
         self.again, self.left_out = 0, 0.0  # how often the filling was begun again, and the seconds left out since it is slower
 
     def begin(self, now):
@@ -86,7 +86,7 @@ class Pacer:
             if self.pace.written > BURST:
                 self.burst(self.pace.written, "while the link took nothing", now)
                 return
-        part = live.sent / live.pending[0].total if live.sending == 0 else 1.0
+        part = live.part_fetched
         due = self.slowed(due)
         while due > 0 and not live.is_full and (steps := self.pace.steps(due, part, now - live.ran_at)) > 0:
             live.longest = max(live.longest, now - live.ran_at)

@@ -4,8 +4,8 @@ import secrets
 import struct
 from pathlib import Path
 
-from host.live import PIECE, Live
-from host.node import Node, Refused, piece
+from host.live import Live
+from host.node import PIECE, Node, Refused, piece, text_from
 from host.settings import boot_line
 from host.text import SECTOR, count_at, sectors_at
 
@@ -65,9 +65,11 @@ def booted(settings):
     node = Node(settings.node)
     try:
         node.ask(boot_line(settings.guest))
-        total, text = node.ask("protect").number(2), bytearray()
-        while len(text) < total:
-            text += bytes.fromhex(node.ask(f"text 0 {len(text)} {PIECE}").words[1].decode())
+        node.ask("protect")
+        text, is_whole = bytearray(), False
+        while not is_whole:
+            more, is_whole = text_from(node, 0, len(text))
+            text += more
         return bytes(text)
     finally:
         node.close()

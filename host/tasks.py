@@ -1,9 +1,8 @@
 """What takes more than a turn of the loop: a drain, and a snapshot. One may be under way at a time."""
 import os
-from binascii import unhexlify
 from pathlib import Path
 
-from host.live import MOST_PENDING, PIECE
+from host.live import MOST_PENDING
 from host.meeting import go_live
 
 
@@ -63,7 +62,8 @@ class Drain:
 
 
 class Save:
-    """The text of a full checkpoint goes into a file, piece by piece while the guest goes on; then the guest is alone again."""
+    """The text of a full checkpoint goes into a file, piece by piece while the guest goes on; then the guest is alone again. `text` is the
+    live host's pending checkpoint, whose length is known once all of it is fetched."""
 
     name = "a snapshot is being saved"
 
@@ -77,7 +77,7 @@ class Save:
         except Exception:
             self.discard()
             raise
-        self.total, self.done = self.live.pending[0].total, 0
+        self.text, self.done = self.live.pending[0], 0
 
     def due(self, now):
         return now
@@ -85,12 +85,10 @@ class Save:
     def turn(self, now):
         end = now + self.live.epoch / 4
         try:
-            while self.done < self.total and now < end:
-                data = unhexlify(self.live.node.ask(f"text 0 {self.done} {PIECE}").words[1])
-                self.file.write(data)
-                self.done += len(data)
+            while self.done < self.text.total and now < end:
+                self.done += self.file.write(self.live.fetched(0, self.done, now))
                 now = self.host.link.now()
-            if self.done >= self.total:
+            if self.done >= self.text.total:
                 self.finish()
         except OSError as error:
             self.discard()
@@ -101,14 +99,14 @@ class Save:
         os.fsync(self.file.fileno())
         self.file.close()
         os.replace(self.beside, self.path)
-        self.host.log.info(f"saved {self.path}: {self.total} bytes")
+        self.host.log.info(f"saved {self.path}: {self.done} bytes")
         self.over(None)
 
     def over(self, answer):
         host = self.host
         host.task = None
         self.live.alone(host.link.now())
-        self.answer(answer or host.control.did(f"saved {self.total} bytes as {self.path}", bytes=self.total))
+        self.answer(answer or host.control.did(f"saved {self.done} bytes as {self.path}", bytes=self.done))
 
     def discard(self):
         self.file.close()

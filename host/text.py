@@ -4,6 +4,7 @@ import struct
 PAGES_AT, RECORDS_AT = 524, 528
 COUNT, PAGE = struct.Struct("<I"), struct.Struct("<IQ")
 BLOCK, SECTOR = 64, 512
+MOST_PAGE = PAGE.size + 64 * BLOCK  # bytes of a page's record
 MOST_LOOKED_AT = 64  # records: of a longer text nothing is told
 
 
