@@ -7,7 +7,8 @@ before there is one), and its body:
     4 RESUME    who is live, to its own standby that dialled again. What is pending comes again, text by text
     5 NO        who is dialled: JSON, why. The dialler asks again later
     6 OVER      who is live: JSON, why. That attachment is over: the dialler gives up what it holds, and comes anew
-    7 TEXT      who is live: generation, number, place, and length of the whole text (8 bytes each), and bytes of it
+    7 TEXT      who is live: generation, number, place, and length of the whole text (8 bytes each), and bytes of it. With the last bytes
+                the length is exact; of number 0 it may be more with those before, since it is known only once the end was fetched
     8 ACK       the standby: generation and number (8 bytes each) of the last commit
     9 PING      both, where nothing else was said for a quarter of `link_ms`
     10 GO_LIVE  who was live, and has drained and stopped: generation and number of the last checkpoint
@@ -18,7 +19,7 @@ import struct
 
 HELLO, OFFER, READY, RESUME, NO, OVER, TEXT, ACK, PING, GO_LIVE = range(1, 11)
 LENGTH, HEAD = struct.Struct(">I"), struct.Struct(">IB16s")
-PLACE = struct.Struct(">QQQQ")  # of a text's bytes: generation, number, where they begin, and how many the whole text has
+PLACE = struct.Struct(">QQQQ")  # of a text's bytes: generation, number, where they begin, and how many the whole text has, at most
 TEXT_HEAD = struct.Struct(">IB16sQQQQ")  # both
 NUMBER = struct.Struct(">QQ")  # generation and number
 NO_SESSION = bytes(16)
