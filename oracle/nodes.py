@@ -10,6 +10,7 @@ from oracle.pair import ALREADY_PAIRED, BAD_FRAME, BEHIND, CUT_NEEDED, GAP, MOST
 
 EXHAUSTED, OLD_VERSION, MALFORMED = "14 Exhausted", "15 OldVersion", "11 Malformed"
 END = 2**62  # of generations and of the numbers of checkpoints and frames
+PAGES_AT = 524  # where a text has the count of its page records
 LONGEST_LINE = 268_435_456
 ALONE, FILLING, PAIRED, STANDBY, EMPTY = "alone", "filling", "paired", "standby", "empty"
 
@@ -123,6 +124,12 @@ def applied(machine, c):
     return machine
 
 
+def most_bytes(c):
+    """How long the text of a full checkpoint is at most: as if no block of memory were all zero."""
+    page_record, sector_record = 4 + 8 + PAGE, 4 + SECTOR
+    return PAGES_AT + 4 + page_record * c.pages + 4 + sector_record * len(c.sector_records) + 4
+
+
 @dataclass
 class Pending:
     number: int
@@ -175,15 +182,15 @@ class Primary:
         put_pages(c, self.original, machine.ram)
         put_sectors(c, machine.disk.data, machine.disk.written)
         c.frames = self.taken()
-        return f"cut {self.generation} {self.next} {self.hold(c)}"
+        self.hold(c)
+        return f"cut {self.generation} {c.number} {len(self.pending[-1].text)}"
 
     def hold(self, c):
-        """The checkpoint is pending, and the next epoch begins. Answers how many bytes its text has."""
+        """The checkpoint is pending, and the next epoch begins."""
         self.original, self.machine.disk.written = bytes(self.machine.ram), set()
         self.machine.ram.written.clear()
         self.pending.append(Pending(c.number, checkpoints.text(c), c.frames))
         self.next = c.number + 1
-        return len(self.pending[-1].text)
 
     def text(self, n, start, count):
         self.need_standby()
@@ -219,7 +226,8 @@ class Primary:
         put_pages(c, bytes(len(machine.ram)), machine.ram)
         data = machine.disk.data
         put_sectors(c, data, [s for s in range(c.sectors) if any(data[SECTOR * s:SECTOR * s + SECTOR])])
-        return f"protecting {self.generation} {self.hold(c)}"
+        self.hold(c)
+        return f"protecting {self.generation} {most_bytes(c)}"
 
 
 class Standby:

@@ -13,6 +13,8 @@ const MOST_PENDING: usize = 4;
 const STEP_FRAMES: usize = 192;
 const END: u64 = 1 << 62;
 const STEPS: usize = 5;
+/// Bytes of a count of records, and of an index.
+const COUNT: usize = 4;
 
 /// What a line is answered, without its newline; `None` where it is bad.
 type Answer = Option<Result<String, &'static str>>;
@@ -309,8 +311,9 @@ impl Primary {
                 .push((sector, bytes.try_into().expect("a sector")));
         }
         delta.frames = std::mem::take(&mut self.machine.sent);
-        let held = self.hold(self.next, delta);
-        Ok(format!("cut {} {held}", self.generation))
+        let number = self.next;
+        let bytes = self.hold(number, delta);
+        Ok(format!("cut {} {number} {bytes}", self.generation))
     }
 
     /// A checkpoint of that number, without records and frames.
@@ -323,17 +326,17 @@ impl Primary {
         Delta::new(head)
     }
 
-    /// The checkpoint is pending. Answers its number and how many bytes its text has.
-    fn hold(&mut self, number: u64, mut delta: Delta) -> String {
+    /// The checkpoint is pending. Answers how many bytes its text has.
+    fn hold(&mut self, number: u64, mut delta: Delta) -> usize {
         let text = encode(&delta);
-        let answer = format!("{number} {}", text.len());
+        let bytes = text.len();
         self.pending.push_back(Pending {
             number,
             text,
             frames: std::mem::take(&mut delta.frames),
         });
         self.next = number + 1;
-        answer
+        bytes
     }
 
     fn text(&self, number: u64, from: u64, count: u64) -> Result<String, &'static str> {
@@ -413,10 +416,16 @@ impl Primary {
                 full.sectors.push((sector as u32, bytes));
             }
         }
-        let answer = self.hold(0, full);
-        let bytes = answer.split(' ').nth(1).expect("its bytes");
-        Ok(format!("protecting {} {bytes}", self.generation))
+        let most = most_bytes(self.machine.ram.len() / PAGE, full.sectors.len());
+        self.hold(0, full);
+        Ok(format!("protecting {} {most}", self.generation))
     }
+}
+
+/// How long the text of a full checkpoint of so many pages is at most, with so many sector records: as if no block of memory were all zero.
+fn most_bytes(pages: usize, sectors: usize) -> usize {
+    let [page_record, sector_record] = [COUNT + 8 + PAGE, COUNT + SECTOR];
+    head::BYTES + COUNT + page_record * pages + COUNT + sector_record * sectors + COUNT
 }
 
 impl Standby {
