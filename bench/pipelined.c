@@ -261,20 +261,37 @@ static void *hear(void *unused) {
     return unused;
 }
 
-/* A checkpoint goes over with nothing else under way. The primary's next answer says how long its text is. */
+/* A line, which is the only one under way: how many bytes it has. */
+static size_t get_line(int from, char *line) {
+    size_t count = 0;
+    do {
+        ssize_t came = read(from, line + count, PIPE);
+        if (came <= 0)
+            fail("read");
+        count += came;
+    } while (line[count - 1] != '\n');
+    return count;
+}
+
+/* A checkpoint goes over with nothing else under way, until the standby has the whole of it. The primary's next answer says how long its
+ * text is, or, of the full checkpoint, how long at most. */
 static void carry_alone(int number) {
-    char *text = malloc(2 * part + SHORT);
+    char *text = malloc(2 * part + SHORT + PIPE), *said, wanted[SHORT];
+    size_t at = 0;
     length = number_answered(&first);
-    for (size_t at = 0; at < length; at += part) {
-        size_t count = least(part, length - at), bytes = strlen("text \n") + 2 * count;
-        tell(&first, "text %d %zu %zu\n", number, at, count);
-        get(first.from, text, bytes);
+    do {
+        tell(&first, "text %d %zu %zu\n", number, at, part);
+        size_t bytes = get_line(first.from, text), word = strlen("text ");
         tell(&second, "piece ");
-        put(second.to, text + strlen("text "), bytes - strlen("text "));
-    }
+        put(second.to, text + word, bytes - word);
+        said = answered(&second);
+        at += part;
+    } while (strncmp(said, "taken ", strlen("taken ")) == 0);
     free(text);
+    snprintf(wanted, sizeof wanted, "whole 2 %d", number);
+    compare(said, wanted);
     tell(&second, "commit\n");
-    expect_commit(number);
+    expect(&second, "committed 2 %d", number);
     tell(&first, "ack 2 %d\n", number);
     expect(&first, "acked 2 %d frames 0", number);
 }

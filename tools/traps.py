@@ -82,8 +82,8 @@ class Node:
             self.steps = came
 
     def checkpoint(self, pages, sectors):
-        size = int(self.ask("protect", "protecting")[2])
-        found, _ = read_stream(bytes.fromhex(self.ask(f"text 0 0 {size}", "text")[1]), pages, sectors)
+        most = self.ask("protect", "protecting")[2]
+        found, _ = read_stream(bytes.fromhex(self.ask(f"text 0 0 {most}", "text")[1]), pages, sectors)
         if not found:
             raise Unknown
         return found[0]
