@@ -4,14 +4,15 @@ writes. Beside the lines of each host stands what the pair of docs/PROTOCOL.md d
 from dataclasses import dataclass, field
 
 from fuzz.spellings import COMMENTS
-from oracle import mirror
+from oracle import mirror, strider
 from oracle.history import BOX_FRAMES, targets
-from oracle.nodes import ALONE, MOST_PENDING, Node
+from oracle.nodes import ALONE, FILLING, MOST_PENDING, PAGES_AT, Node
 from oracle.sender import Sender
 
 OF_A_PRIMARY = [b"cut", b"step 1", b"alone", b"protect", b"ack 2 0", b"text 0 0 9", b"arrive " + b"5a" * 14, b"arrive 5a"]
 OF_A_STANDBY = [b"piece 52", b"commit", b"restart", b"golive"]
 OF_NEITHER = [b"boot 2 1 1 idle", b"standby 2 1 1", b"standby 2 1 9"]
+FIRST_STEPS = {mirror.PAGES: 60, strider.PAGES: 250}  # by the guest's pages: those in which it gets ready, or goes all over its memory
 CLIENT_FRONT, CARD = bytes.fromhex("0200000001"), bytes.fromhex("020000000001")
 
 
@@ -115,14 +116,15 @@ class Run:
         sender = Sender(rng.choices(range(4), k=8), rng.choice([1, 1, 2, 5, 64]), rng.choice([0, 4, 30]))
         self.pages, guest = rng.choice([
             (2, b"beacon"), (2, b"idle"), (2, b"disk %d %02x" % (rng.randrange(self.sectors + 1), rng.randrange(256))),
+            (strider.PAGES, b"words " + strider.words(rng.choice(strider.STRIDES))),
             *[(rng.choice([1, 2]), b"words " + sender.words())] * 3, *[(mirror.PAGES, b"words " + mirror.words())] * 3])
         self.is_mirror = self.pages == mirror.PAGES
         line = b"boot %d %d %d %s" % (self.pages, self.sectors, self.clients, guest)
         self.primary, self.script = self.host(), Script(line, self.clients)
         self.strew(self.primary)
         self.ask(self.primary, line)
-        if self.is_mirror and rng.random() < 0.9:
-            self.step(mirror.PAGES * 10)
+        if self.pages in FIRST_STEPS and rng.random() < 0.9:
+            self.step(FIRST_STEPS[self.pages])
 
     def machine(self):
         return self.primary.node.role.machine
@@ -167,6 +169,12 @@ class Run:
             answer = self.ask(self.primary, b"text %d %s %s" % (pending.number, self.number(len(data)), self.number(count)))
             data += bytes.fromhex(answer[5:])
         self.texts.append(Text(primary.generation, pending.number, data, len(data) == length))
+
+    def look(self):
+        """The primary looks at more of its guest's memory for the full checkpoint, and is asked for none of its text, or for bytes in front of
+        the pages' count, or for one behind those."""
+        begin, count = self.rng.choice([(0, 0), (0, 0), (0, 0), (0, PAGES_AT), (PAGES_AT - 3, 3), (PAGES_AT - 3, 4), (PAGES_AT + 1, 0)])
+        self.ask(self.primary, b"text 0 %d %d" % (begin, count))
 
     def acknowledge(self):
         """The primary gets an acknowledgement, which is mostly a new one and may come again."""
@@ -265,6 +273,7 @@ class Run:
         else:
             pending = len(self.primary.node.role.pending)
             acts[self.cut], acts[self.read] = 2 if pending < MOST_PENDING else 0.2, 2.5 if pending else 0.1
+            acts[self.look] = 2 if self.mode() == FILLING else 0.05
             acts[self.alone if self.is_deaf else self.stop_standby] = 1 if self.is_deaf else 0.12
             if not self.standby and not self.is_deaf:
                 acts[self.stand_by] = 4

@@ -1,5 +1,5 @@
 """A worked run of two nodes that goes through all lines of docs/NODES.md, for fuzz/node_refusals and tests/gate/nodes."""
-from oracle import mirror
+from oracle import mirror, strider
 from oracle.nodes import Node
 
 FRAME = "arrive 020000000101020000000001" + "88b5" * 30
@@ -35,7 +35,7 @@ def run():
     worked = Worked()
     ask, carry = worked.ask, worked.carry
     ask("primary", "show", "cut", f"boot {mirror.PAGES} 8 1 words {mirror.words().decode()}", "boot 2 1 1 idle", "step 60", FRAME)
-    ask("primary", "arrive 00", "step 30", "show", "cut", "ack 1 0", "protect", "sector 7", "show")
+    ask("primary", "arrive 00", "step 30", "show", "cut", "ack 1 0", "protect", "sector 7", "show", "text 0 0 0")
     ask("standby", "show", "piece 52", f"standby {mirror.PAGES} 8 2", "commit", "golive", "sector 0", "show")
     carry(0, 3)
     ask("standby", "commit", "show", "sector 7")
@@ -89,6 +89,23 @@ def early_cut():
     return worked
 
 
-RUNS = {"a guest that sends back": run, "a guest with a disk": disks, "a cut before the full text": early_cut}
+def cuts_between_looks():
+    """A guest of more memory than a node looks at with two lines. After each line that looks it writes all over its memory, and an epoch ends:
+    so some of the pages that the full checkpoint's text still needs were looked at, and some weren't, or were kept before."""
+    worked = Worked()
+    ask, carry = worked.ask, worked.carry
+    ask("primary", f"boot {strider.PAGES} 8 1 words {strider.words(300).decode()}", "step 20", "protect", "step 30", "cut")
+    for number in 0, 1:
+        ask("primary", f"text {number} 0 0", "step 40", "cut")
+    ask("standby", f"standby {strider.PAGES} 8 2")
+    for number in 0, 1, 2, 3:
+        carry(number, 2)
+        ask("standby", "commit", "show")
+    ask("primary", "ack 2 3", "show")
+    return worked
+
+
+RUNS = {"a guest that sends back": run, "a guest with a disk": disks, "a cut before the full text": early_cut,
+        "cuts between lines that look": cuts_between_looks}
 # Those between whose lines no text is asked for, since asking has it made.
-WITHOUT_TEXTS = {"a cut before the full text"}
+WITHOUT_TEXTS = {"a cut before the full text", "cuts between lines that look"}
