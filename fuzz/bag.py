@@ -171,8 +171,8 @@ class Run:
         self.texts.append(Text(primary.generation, pending.number, data, len(data) == length))
 
     def look(self):
-        """The primary looks at more of its guest's memory for the full checkpoint, and is asked for none of its text, or for bytes in front of
-        the pages' count, or for one behind those."""
+        """The primary looks at more of its guest's memory for the full checkpoint. It is asked for none of that text, or for bytes in front
+        of the pages' count, or for one behind those."""
         begin, count = self.rng.choice([(0, 0), (0, 0), (0, 0), (0, PAGES_AT), (PAGES_AT - 3, 3), (PAGES_AT - 3, 4), (PAGES_AT + 1, 0)])
         self.ask(self.primary, b"text 0 %d %d" % (begin, count))
 

@@ -90,8 +90,8 @@ def early_cut():
 
 
 def cuts_between_looks():
-    """A guest of more memory than a node looks at with two lines. After each line that looks it writes all over its memory, and an epoch ends:
-    so some of the pages that the full checkpoint's text still needs were looked at, and some weren't, or were kept before."""
+    """A guest of more memory than a node looks at with two lines. After each line that looks it writes all over its memory, and an epoch
+    ends: of the pages that the full checkpoint's text still needs some were looked at, some weren't, and some were kept before."""
     worked = Worked()
     ask, carry = worked.ask, worked.carry
     ask("primary", f"boot {strider.PAGES} 8 1 words {strider.words(300).decode()}", "step 20", "protect", "step 30", "cut")
