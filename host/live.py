@@ -39,7 +39,7 @@ class Live:
         self.generation, self.steps, self.mode = generation, steps, ALONE
         self.pages = host.shape[0]  # of the guest's memory
         self.to_look = 0  # by so many `text` lines the node has looked at all of them
-        self.beside_pages = 0  # bytes of the full checkpoint's text that are in no page's record
+        self.most = 0  # bytes that the full checkpoint's text has at most, by what is known of its pages
         self.session, self.standby = None, None  # the attachment's name, and who is attached: its name and instance
         self.pending, self.cut, self.acked = OrderedDict(), None, None
         self.sending, self.sent = 0, 0  # the checkpoint that is being sent, and how many of its bytes are
@@ -242,9 +242,9 @@ class Live:
 
     @property
     def part_fetched(self):
-        """Of the full checkpoint's text, at least: until its end is here, of as many bytes as its pages may have. None while the node looks
-        for these, which takes no longer than some mebibytes of a text."""
-        return self.sent / self.pending[0].total if self.sending == 0 else 1.0
+        """Of the full checkpoint's text, at least: of as many bytes as its pages may have. None while the node looks for these, which takes
+        no longer than some mebibytes of a text."""
+        return self.sent / self.most if self.sending == 0 else 1.0
 
     def has_to_send(self):
         return self.cut is not None and self.sending <= self.cut and self.is_linked and self.link.has_room()
@@ -282,7 +282,7 @@ class Live:
             self.counts.checkpoint_pages += pages
             one.is_silent = frames == 0
             if not one.is_exact:
-                one.total = self.beside_pages + MOST_PAGE * pages
+                self.most = one.total - MOST_PAGE * (self.pages - pages)
             if not one.is_silent:
                 self.moved_at = now
         self.sent, self.pacer.sent_at = self.sent + len(data), now
@@ -329,7 +329,7 @@ class Live:
         answer = self.node.ask("protect")
         self.generation, self.mode = answer.number(1), FILLING
         self.pending = OrderedDict({0: Pending(answer.number(2), False, now)})
-        self.to_look, self.beside_pages = looks(self.pages), answer.number(2) - MOST_PAGE * self.pages
+        self.to_look, self.most = looks(self.pages), answer.number(2)
         self.cut, self.acked, self.sending, self.sent, self.is_fetched = 0, None, 0, 0, False
         self.acked_at = self.epoch_begun = now
         self.watch = Watch()
