@@ -37,7 +37,7 @@ def text(host):
     one("remus_link_up", "gauge", "1 while the peer is attached.", int(host.link.is_up))
     one("remus_full", "gauge", "1 where the guest could go on here.", int(host.full))
     one("remus_epochs_total", "counter", "Epochs that ended in a checkpoint.", counts.epochs)
-    one("remus_checkpoint_bytes_total", "counter", "Bytes of checkpoints that were cut or committed here: of a full one once all is fetched.",
+    one("remus_checkpoint_bytes_total", "counter", "Bytes of checkpoints that were cut or committed here: of a full one once it is fetched.",
         counts.checkpoint_bytes)
     one("remus_checkpoint_pages_total", "counter", "Page records of checkpoints that were sent.", counts.checkpoint_pages)
     one("remus_commits_total", "counter", "Checkpoints that were committed here.", counts.commits)

@@ -10,8 +10,8 @@ BACK_BY_8 = 0x7F << 25 | 0b11001 << 7
 
 
 def rounds(pages, stride, change):
-    """The words of a guest of so many pages whose rounds begin with an instruction that changes the value. `stride` is the one that sets it,
-    in bytes. It lies in the first block of memory, of which it writes the last word."""
+    """The words of a guest of so many pages, each of whose rounds begins with the instruction `change` of its value; `stride` is the one that
+    sets the stride, in bytes. It lies in the first block of memory, of which it writes the last word."""
     back = END << 20 | AT << 15 | BLTU | BACK_BY_8
     words = [upper(0x17, BASE, 0), upper(0x37, END, pages), BASE << 20 | END << 15 | END << 7 | 0x33, stride, change, addi(AT, BASE, 0),
              sw(VALUE, 60, AT), STRIDE << 20 | AT << 15 | AT << 7 | 0x33, back, jump(-20)]
