@@ -41,6 +41,7 @@ class Live:
         self.to_look = 0  # by so many `text` lines the node has looked at all of them
         self.most = 0  # bytes that the full checkpoint's text has at most, by what is known of its pages
         self.session, self.standby = None, None  # the attachment's name, and who is attached: its name and instance
+        self.successor = None  # another instance that has come from the standby's host since
         self.pending, self.cut, self.acked = OrderedDict(), None, None
         self.sending, self.sent = 0, 0  # the checkpoint that is being sent, and how many of its bytes are
         self.is_fetched = False  # whether the node was asked for all of the full checkpoint's text
@@ -346,7 +347,13 @@ class Live:
         """The standby's connection is a new one, and it has committed so much."""
         if committed is not None:
             self.acknowledge(self.generation, committed, now)
+        self.successor = None
         self.sending, self.sent = next(iter(self.pending), self.cut + 1), 0
+
+    def heard_of(self, name, instance):
+        """A host of that name came with that instance. Where it is the standby's host and another instance, the standby has ended."""
+        if self.standby and name == self.standby[0] and instance != self.standby[1]:
+            self.successor = instance
 
     def begin_again(self, now):
         """The filling is given up, before all of the text is sent, so that nobody can ever go live with it. The standby finds its link gone
@@ -358,7 +365,7 @@ class Live:
     def alone(self, now):
         """The standby has stopped for good: all that is held is let out."""
         answer = self.node.ask("alone")
-        self.mode, self.session, self.standby, self.late_ack = ALONE, None, None, None
+        self.mode, self.session, self.standby, self.successor, self.late_ack = ALONE, None, None, None, None
         self.pacer.end()
         self.pending, self.cut, self.acked, self.is_full = OrderedDict(), None, None, False
         self.moved_at = now

@@ -57,6 +57,8 @@ class Meeting:
         host, live = self.host, self.host.live
         if hello["version"] != messages.VERSION:
             return self.refuse(connection, f"it speaks version {hello['version']} of the link, and this host {messages.VERSION}")
+        if live:
+            live.heard_of(hello["name"], hello["instance"])
         if host.role != "live":
             return self.refuse(connection, f"this host is {host.role}", "debug")
         name, session = hello["name"], hello["session"]

@@ -74,6 +74,8 @@ class Pair:
                 return self.absent()
             if status["role"] == "live":
                 return self.monitor_live(status)
+            if status["role"] == "frozen" and self.goes_alone(status):
+                status = self.daemon.running()
             if status["instance"] in self.cluster.given_up():
                 raise Failure(GENERIC, "this standby was given up: it has to begin anew")
         except Failure:
@@ -81,6 +83,29 @@ class Pair:
             raise
         self.publish(status)
         return SUCCESS
+
+    def goes_alone(self, status: dict) -> bool:
+        """Has the guest go on alone where its standby has surely stopped and no notification said so: Pacemaker forgets one where it gives
+        up what it was about, since its members change meanwhile. Another instance has come from the standby's host since; or nothing comes
+        from the standby any more, or the guest stands, and the cluster's state has none that runs elsewhere. Where anything fails it is
+        tried again by the next monitor."""
+        if status["mode"] == "alone" or not status["peer"].get("instance"):
+            return False
+        try:
+            if status["peer"].get("successor"):
+                why = f"another instance, {status['peer']['successor']}, has come from its host"
+            elif (status["role"] == "frozen" or self.has_stalled(status)) and self.cluster.has_stopped_elsewhere():
+                why = "Pacemaker says so, and no notification did"
+            else:
+                return False
+            self.refuse_unsafe()
+            self.cluster.write_life(str(Life(status["life"], status["generation"])))
+            self.daemon.command("alone", standby=status["peer"]["instance"])
+        except Failure as failure:
+            warn(f"the guest doesn't go on alone yet. {failure.reason}")
+            return False
+        warn(f"the standby {status['peer']['instance']} has stopped: {why}. The guest goes on alone")
+        return True
 
     def absent(self) -> int:
         """Nobody listens: no daemon was started, or it has ended, or it hangs."""
@@ -92,6 +117,8 @@ class Pair:
 
     def monitor_live(self, status: dict) -> int:
         self.cluster.publish(SCORE_LIVE)
+        if self.goes_alone(status):
+            status = self.daemon.running()
         self.name_life(status)
         self.watch_standby(status)
         return PROMOTED
@@ -108,10 +135,14 @@ class Pair:
         except Failure as failure:
             warn(failure.reason)
 
+    @staticmethod
+    def has_stalled(status: dict) -> bool:
+        return stalls(status, float(parameter("stall", "2")))
+
     def watch_standby(self, status: dict) -> None:
         """Asks for a standby that acknowledges nothing to be stopped, and takes that back where it acknowledges again."""
         standby = status["peer"].get("instance")
-        if standby and stalls(status, float(parameter("stall", "2"))):
+        if standby and self.has_stalled(status):
             warn(f"nothing was acknowledged for {status['unacknowledged_ms']} ms: the standby {standby} is given up")
             self.cluster.give_up(standby)
             os.makedirs(self.daemon.folder, mode=0o755, exist_ok=True)
@@ -184,15 +215,18 @@ class Pair:
         status = self.daemon.status()
         if status is None or status["role"] not in ("live", "frozen") or status["mode"] == "alone":
             return
-        unsafe = self.cluster.unsafe()
-        if unsafe:
-            raise Failure(GENERIC, f"the guest doesn't go on alone. {unsafe}")
+        self.refuse_unsafe()
         try:
             self.cluster.write_life(str(Life(status["life"], status["generation"])))  # no checkpoint of this generation goes live any more
         except Failure as failure:
             warn(failure.reason)
         standby = status["peer"].get("instance")
         self.daemon.command("alone", **({"standby": standby} if standby else {}))
+
+    def refuse_unsafe(self) -> None:
+        unsafe = self.cluster.unsafe()
+        if unsafe:
+            raise Failure(GENERIC, f"the guest doesn't go on alone. {unsafe}")
 
     def other_is_live(self) -> None:
         """A guest that was stopped here, or a checkpoint of another guest, is of no use any more: this host has to begin anew."""

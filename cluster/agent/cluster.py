@@ -57,6 +57,23 @@ class Cluster:
                 return f"{name}=false: a host that doesn't answer might still run the guest"
         return None
 
+    def has_stopped_elsewhere(self) -> bool:
+        """Whether Pacemaker knows of each other node that no instance runs there: it stopped it, or the node is off, and surely so. Not
+        where somebody else looks after the instances."""
+        shown = run("crm_mon", "--one-shot", "--output-as=xml", seconds=5)
+        if shown.returncode != 0:
+            return False
+        import xml.etree.ElementTree as xml  # only where it is wanted, as tomllib
+        try:
+            state = xml.fromstring(shown.stdout)
+        except xml.ParseError:
+            return False
+        instances = [one for one in state.iterfind("./resources//resource") if one.get("id", "").partition(":")[0] == self.resource]
+        active = {node.get("name") for one in instances for node in one.iterfind("node")}
+        others = [node for node in state.iterfind("./nodes/node") if node.get("name") != self.node]
+        return (self.node in active and all(one.get("managed") == "true" for one in instances) and others != []
+                and all((node.get("unclean"), node.get("pending")) == ("false", "false") and node.get("name") not in active for node in others))
+
     def score_command(self) -> list[str]:
         return ["crm_attribute", "--promotion=" + self.resource, "--node", self.node, "--lifetime", "reboot"]
 

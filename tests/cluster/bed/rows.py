@@ -129,6 +129,30 @@ def hang(row, times):
         bed.pair()
 
 
+def wakes(row, times):
+    """The standby hangs, and is woken while it is being fenced. The cluster's members change meanwhile, so Pacemaker doesn't say that the
+    standby has stopped, and the agent has to see it."""
+    bed = row.bed
+    for row.tries in range(1, times + 1):
+        live, standby = bed.pair()
+        with row.clients() as clients:
+            begin = time.time()
+            bed.power.answers = False
+            bed.power.signal_all(standby, signal.SIGSTOP)
+            bed.until(lambda: bed.power.since(begin, "asked", standby), 20, "a host that is to be fenced")
+            bed.power.signal_all(standby, signal.SIGCONT)
+            bed.power.answers = True
+            off = bed.until(lambda: bed.power.since(begin, "off", standby), 20, "a host that is fenced")
+            alone = bed.until(lambda: bed.when(live, "^alone in generation", begin), 30, "alone")
+            time.sleep(0.5)
+        row.expect(off < alone, "it went alone before the standby was fenced")
+        row.expect(bed.live() == live, "the live host isn't live any more")
+        row.note("alone after", alone - begin)
+        row.pauses(clients, begin)
+        row.check(clients)
+        bed.pair()
+
+
 def killed(row, times):
     """The daemon's process or its node's is killed, at the live host or at the standby."""
     bed = row.bed
@@ -356,8 +380,8 @@ def trace(bed):
 # By name: the row, and how often it is tried on which guests.
 ROWS = {
     "power": (power, {"web": 4, "bank": 20}), "split": (split, {"bank": 10}), "standby-power": (standby_power, {"bank": 2}),
-    "hang": (hang, {"bank": 2}), "killed": (killed, {"bank": 1}), "both": (both, {"bank": 1}), "link": (link, {"bank": 1}),
-    "no-fencing": (no_fencing, {"bank": 1}), "move": (move, {"bank": 2}), "upgrade": (upgrade, {"bank": 1}),
+    "hang": (hang, {"bank": 2}), "wakes": (wakes, {"bank": 3}), "killed": (killed, {"bank": 1}), "both": (both, {"bank": 1}),
+    "link": (link, {"bank": 1}), "no-fencing": (no_fencing, {"bank": 1}), "move": (move, {"bank": 2}), "upgrade": (upgrade, {"bank": 1}),
 }
 
 
