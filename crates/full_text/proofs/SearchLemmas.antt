@@ -1,5 +1,5 @@
 -- Pages that are searched for: they are found in turn, they are those of a cut over zeros, and what is kept of memory leaves them as they are.
-use Rattle.std.proofs.Common.{◌≡◌, ℕ, zero, suc, ◌+◌, ◌-◌, ◌*◌, ◌^◌, ◌<◌, ◌≤◌, ◌==◌, ◌++◌, ◌∷◌, [], not, Bool, true, false, cond, List, Option, None}
+use Rattle.std.proofs.Common.{◌≡◌, ℕ, zero, suc, ◌+◌, ◌-◌, ◌*◌, ◌/◌, ◌^◌, ◌<◌, ◌≤◌, ◌==◌, ◌++◌, ◌∷◌, [], not, Bool, true, false, cond, List, Option, None}
 use Rattle.std.proofs.Common.{length, take, refl, sym, ap, ◌∙◌, arith, subst, length-append, All, ◌⊎◌, inl, inr}
 use Rattle.std.proofs.lemmas.Bool.{cases_lt}
 use Rattle.std.proofs.lemmas.List.{drop_all, take_all, FromFn.filter_of_map_range_with_len_more}
@@ -15,7 +15,7 @@ use Rattle.epoch_snapshot.specs.Blocks.{IsPageIn, changed_mask}
 use Rattle.epoch_snapshot.specs.Cuts.{changed_pages, is_changed}
 use Rattle.checkpoint_stream.specs.HeadTable.{bytes_of}
 use Rattle.checkpoint_stream.specs.declared.rules.Width.TheVariants.{Four}
-use Rattle.full_text.specs.Full.{AreEnough, AreIn, IsSameIn, Searching, SearchFits, found_of, kept_or, most, most_record, page_at, page_records, record_size, records_size, whole, zeros}
+use Rattle.full_text.specs.Full.{AreIn, IsMost, IsSameIn, Searching, SearchFits, found_of, kept_or, most, most_record, page_at, page_records, record_size, records_size, whole, zeros}
 use Rattle.full_text.specs.UsedPages.{used_mask, used_page, used_pages}
 use Rattle.full_text.proofs.FullLemmas.{four-bytes, full-size}
 use Rattle.full_text.proofs.RecordLemmas.{OnesAreNamed, OwnAreRecorded}
@@ -163,9 +163,9 @@ found-made ram s =
     let count = length (used_pages (page_at ram s.kept) s.pages) in
     omega (arith, length-append s.head (bytes_of Four count), four-bytes count)
 
--- the text of a full checkpoint is no longer than told, and not much shorter
+-- the text of a full checkpoint is shorter than told by what the records have less
 module _ (ones : OnesAreNamed) (own : OwnAreRecorded) (shape : Shape) (m : State) (g : ℕ) (s : Searching) (kept : s.kept ≡ [])
-    (count : s.pages ≡ shape.pages)
+    (size : length m.guest.ram ≡ 4096 * s.pages)
     (pages : (found_of m.guest.ram s).pages ≡ changed_pages (zeros m.guest.ram) m.guest.ram shape.pages)
     (masks : All (λ (p : PageChange). p.mask < 2 ^ 64) (changed_pages (zeros m.guest.ram) m.guest.ram shape.pages))
     (within : AreIn (length m.guest.ram) (found_of m.guest.ram s).pages) where
@@ -175,8 +175,12 @@ module _ (ones : OnesAreNamed) (own : OwnAreRecorded) (shape : Shape) (m : State
       full-size ones own shape m g (found_of m.guest.ram s) kept pages masks within
       ∙ ap (λ n. n + (records_size (found_of m.guest.ram s).pages + length s.tail)) (found-made m.guest.ram s)
 
-  pub most-enough : AreEnough (most s) (whole m.guest.ram (found_of m.guest.ram s)) s.pages
-  most-enough =
-      let f = found_of m.guest.ram s in
+  pub most-is : IsMost (most s) (whole m.guest.ram (found_of m.guest.ram s)) m.guest.ram
+  most-is =
+      let ram = m.guest.ram in
+      let f = found_of ram s in
       let fits = subst (All (λ (p : PageChange). p.mask < 2 ^ 64)) (sym pages) masks in
-      (omega (arith, found-size, sizes-most f.pages fits, used-few (page_at m.guest.ram s.kept) s.pages), omega (arith, found-size))
+      let n : length ram / 4096 ≡ s.pages = omega (arith, size) in
+      let same : records_size (used_pages (page_at ram []) (length ram / 4096)) ≡ records_size f.pages =
+      λ i. records_size (used_pages (page_at ram (sym kept i)) (n i)) in
+      (omega (arith, found-size, sizes-most f.pages fits, used-few (page_at ram s.kept) s.pages), omega (arith, found-size, same, n))

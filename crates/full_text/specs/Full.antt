@@ -1,5 +1,5 @@
 -- The text of a full checkpoint, of which a part is made, and the rest is made later from the memory that the machine had.
-use Rattle.std.specs.Prelude.{◌≡◌, ◌≤◌, ◌<◌, ℕ, ◌+◌, ◌*◌, List, [], ◌∷◌, ◌++◌, length, map, take, drop, replicate, count_ones, All}
+use Rattle.std.specs.Prelude.{◌≡◌, ◌≤◌, ◌<◌, ℕ, ◌+◌, ◌*◌, ◌/◌, List, [], ◌∷◌, ◌++◌, length, map, take, drop, replicate, count_ones, All}
 use Rattle.std.specs.Prelude.{Option, None, Some, slice_index_or}
 use Rattle.std.specs.List.{sum_by}
 use Rattle.guest_rules.specs.Guest.{Guest, State, sector_count}
@@ -107,9 +107,12 @@ pub record SearchFits (ram : List ℕ) (s : Searching) : Type 0 where
 abbrev pub most : Searching → ℕ
 most s = length s.head + 4 + most_record * s.pages + length s.tail
 
--- so many bytes are enough for a text of a memory of so many pages, and no more than a record for each of them beside what it has
-abbrev pub AreEnough : ℕ → List ℕ → ℕ → Type 0
-AreEnough bytes text pages = (length text ≤ bytes) × (bytes ≤ length text + most_record * pages)
+-- THE MOST BYTES that the text of a full checkpoint of this memory may have where nothing of the memory is known, as if no block of it were all
+-- zero: so many more than it has as the records of all pages would have more than those that it has
+abbrev pub IsMost : ℕ → List ℕ → List ℕ → Type 0
+IsMost bytes text ram =
+    let pages = length ram / page_bytes in
+    (length text ≤ bytes) × (bytes + records_size (used_pages (page_at ram []) pages) ≡ length text + most_record * pages)
 
 -- a text that reads back as the full checkpoint of a machine, number 0 of this generation, which makes its guest of any
 pub record IsFullText (m : State) (generation : ℕ) (text : List ℕ) : Type 0 where

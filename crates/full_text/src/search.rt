@@ -5,7 +5,7 @@ ghost use Rattle.checkpoint_stream.specs.Bounds.{most_text};
 ghost use Rattle.checkpoint_stream.specs.HeadTable.{head_table};
 ghost use Rattle.checkpoint_stream.specs.Text.{head_numbers, joined, number_units};
 ghost use Rattle.checkpoint_stream.specs.Widths.{HasWidths};
-ghost use Rattle.full_text.specs.Full.{AreEnough, AreIn, IsFullText, IsSameIn, SearchFits, blank, found_of, most, page_at, whole};
+ghost use Rattle.full_text.specs.Full.{AreIn, IsFullText, IsMost, IsSameIn, SearchFits, blank, found_of, most, page_at, whole};
 ghost use Rattle.full_text.specs.UsedPages.{used_pages};
 
 use crate::found::find_pages;
@@ -67,7 +67,7 @@ impl PageSearch {
         requires first { 1 ≤ generation }
         requires last { generation < 2 ^ 62 }
         ensures text { let ram = machine.now.guest.ram in IfOk result (λ s. IsFullText machine.now generation (whole ram (found_of ram s))) }
-        ensures most { let ram = machine.now.guest.ram in IfOk result (λ s. AreEnough (most s) (whole ram (found_of ram s)) s.pages) }
+        ensures most { let ram = machine.now.guest.ram in IfOk result (λ s. IsMost (most s) (whole ram (found_of ram s)) ram) }
         ensures fits { IfOk result (SearchFits machine.now.guest.ram) }
     {
         let shape = machine.shape();

@@ -15,7 +15,7 @@ use Rattle.pair_record.specs.Tables.{Row}
 use Rattle.pair_record.specs.declared.event.Packet.{Packet}
 use Rattle.pair_record.specs.declared.event.Refusal.{Refusal}
 use Rattle.pair_record.specs.declared.event.Refusal.TheVariants.{BadFrame, NotPaired, AlreadyPaired, Stale, Gap, CutNeeded, Exhausted}
-use Rattle.full_text.specs.Full.{AreEnough}
+use Rattle.full_text.specs.Full.{IsMost}
 use Rattle.pair_core.specs.Nodes.{settled_node}
 use Rattle.pair_nodes.specs.Refusing.{IsFree, IsWhy}
 use Rattle.pair_nodes.specs.Sides.{Primary, after_run, cut_rows, PrimaryCuts, IsFull, after_protect}
@@ -108,10 +108,10 @@ alone_rows p = (not p.backed, NotPaired) ∷ []
 abbrev pub protect_rows : Primary → List Row
 protect_rows p = (p.backed, AlreadyPaired) ∷ (nat_le generation_limit (p.generation + 1), Exhausted) ∷ []
 
--- it answers how many bytes the full checkpoint's text has at most, and no more than a record for each page of its memory beside
+-- it answers how many bytes the full checkpoint's text has at most, whatever its memory has
 pub record IsProtected (p : Primary) (count : ℕ) (q : Primary) : Type 0 where
   pub free : IsFree (protect_rows p)
   pub text : List ℕ
-  pub bytes : AreEnough count text p.shape.pages
+  pub bytes : IsMost count text p.live.guest.ram
   pub full : IsFull p text
   pub left : q ≡ after_protect p text

@@ -2,7 +2,7 @@
 ghost use Rattle.std.specs.Prelude.{◌≡◌, ◌≤◌, ◌<◌, ◌+◌, IfOk, IfErr, OnOk, length};
 ghost use Rattle.failover.specs.Generations.{generation_limit};
 ghost use Rattle.checkpoint_stream.specs.Bounds.{most_text};
-ghost use Rattle.full_text.specs.Full.{AreEnough, SearchFits, found_of, most, whole};
+ghost use Rattle.full_text.specs.Full.{IsMost, SearchFits, found_of, most, whole};
 ghost use Rattle.pair_nodes.specs.Flagged.{unwritten};
 ghost use Rattle.pair_nodes.specs.PrimaryCalls.{protect_rows, IsProtected};
 ghost use Rattle.pair_nodes.specs.Refusing.{IsFree, IsWhyOrMemory};
@@ -43,8 +43,7 @@ impl PrimaryNode {
         ensures free { OnOk result (IsFree (protect_rows self.now.primary)) }
         ensures text { let ram = self.now.primary.live.guest.ram in IfOk result (λ full. IsFull self.now.primary (whole ram (found_of ram full))) }
         ensures short { let ram = self.now.primary.live.guest.ram in IfOk result (λ full. length (whole ram (found_of ram full)) ≤ most_text self.now.primary.shape) }
-        ensures most { let ram = self.now.primary.live.guest.ram in
-            IfOk result (λ full. AreEnough (most full) (whole ram (found_of ram full)) self.now.primary.shape.pages) }
+        ensures most { let ram = self.now.primary.live.guest.ram in IfOk result (λ full. IsMost (most full) (whole ram (found_of ram full)) ram) }
         ensures fits { IfOk result (SearchFits self.now.primary.live.guest.ram) }
         ensures why { IfErr result (IsWhyOrMemory (protect_rows self.now.primary)) }
     {
@@ -66,8 +65,7 @@ impl PrimaryNode {
         requires { self.now.primary.generation + 1 < generation_limit }
         ensures text { let ram = self.now.primary.live.guest.ram in IfOk result (λ full. IsFull self.now.primary (whole ram (found_of ram full))) }
         ensures short { let ram = self.now.primary.live.guest.ram in IfOk result (λ full. length (whole ram (found_of ram full)) ≤ most_text self.now.primary.shape) }
-        ensures most { let ram = self.now.primary.live.guest.ram in
-            IfOk result (λ full. AreEnough (most full) (whole ram (found_of ram full)) self.now.primary.shape.pages) }
+        ensures most { let ram = self.now.primary.live.guest.ram in IfOk result (λ full. IsMost (most full) (whole ram (found_of ram full)) ram) }
         ensures fits { IfOk result (SearchFits self.now.primary.live.guest.ram) }
     {
         let generation = self.generation.number();

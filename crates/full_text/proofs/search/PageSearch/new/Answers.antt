@@ -12,7 +12,7 @@ use Rattle.checkpoint_stream.specs.Widths.{HasWidths}
 use Rattle.checkpoint_stream.specs.declared.rules.Width.TheVariants.{Four}
 use Rattle.full_text.specs.Full.{AreIn, Searching, found_of, page_at, whole, zeros}
 use Rattle.full_text.proofs.FullLemmas.{full_change, full-cut, full-widths, full-whole, full-text}
-use Rattle.full_text.proofs.SearchLemmas.{found-changed, most-enough, used-in, used-none}
+use Rattle.full_text.proofs.SearchLemmas.{found-changed, most-is, used-in, used-none}
 use Rattle.full_text.proofs.search.PageSearch.new.Goals as goal
 
 -- the checkpoint is canonical
@@ -76,7 +76,8 @@ returns-clause-most c =
       tail = c.in_ok-tail.tail;
     } in
     let cut = full-cut shape m c.args.generation c.shape-shape.ensures.pages c.shape-shape.ensures.sectors in
-    most-enough c.masks_name_blocks.ensures.all c.pages_are_their_blocks.ensures.own shape m c.args.generation s c.new.ensures refl
+    most-is c.masks_name_blocks.ensures.all c.pages_are_their_blocks.ensures.own shape m c.args.generation s c.new.ensures
+    c.shape-shape.ensures.pages
     (found-changed ram shape.pages s.kept c.new.ensures c.pages_are_their_blocks.ensures.page c.changes_are_found_in_turn.ensures.pages
     c.shape-shape.ensures.pages)
     (c.full_cuts_are_whole.ensures.masks m c.args.generation (full_change shape m c.args.generation) cut)

@@ -3,7 +3,7 @@ use Rattle.std.proofs.Common.{ap, [], ◌≤◌, ◌+◌, ℕ, length, sym, subs
 use Rattle.std.proofs.lemmas.Result.{IfOk-weaker}
 use Rattle.checkpoint_stream.specs.Bounds.{most_text}
 use Rattle.epoch_snapshot.specs.Cuts.{used_sectors}
-use Rattle.full_text.specs.Full.{IsFullText, Searching, found_of, whole, zeros}
+use Rattle.full_text.specs.Full.{IsFullText, IsMost, Searching, found_of, most, whole, zeros}
 use Rattle.guest_rules.specs.Guest.{Guest, State, sector_count}
 use Rattle.guest_rules.specs.declared.shapes.Shape.{Shape}
 use Rattle.pair_core.specs.Nodes.{HasShape}
@@ -43,3 +43,9 @@ returns-clause-short c =
     (subst (λ (m : State). length (whole m.guest.ram (found_of m.guest.ram f)) ≤ most_text shape) c.machine.ensures
     (short-of shape (c.number-generation.result + 1) f c.machine.result.now h
     (subst (λ (m : State). HasShape shape m.guest) (sym c.machine.ensures) c.self.invariant.sized)))) c.new.ensures.text
+
+pub returns-clause-most : goal.returns-clause-most
+returns-clause-most c =
+    IfOk-weaker c.new.result _ _
+    (λ f h. rw (← ap (λ (p : Flagged). p.primary) c.self.view_is)
+    (subst (λ (m : State). IsMost (most f) (whole m.guest.ram (found_of m.guest.ram f)) m.guest.ram) c.machine.ensures h)) c.new.ensures.most
