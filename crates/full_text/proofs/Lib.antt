@@ -5,3 +5,4 @@ pub mod TextLemmas
 pub mod FullLemmas
 pub mod PartLemmas
 pub mod SearchLemmas
+pub mod StageLemmas

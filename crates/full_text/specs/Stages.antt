@@ -15,6 +15,11 @@ abbrev pub text_of : List ℕ → FullStage → List ℕ
 text_of ram (Search s) = whole ram (found_of ram s)
 text_of ram (Text f) = whole ram f
 
+-- its records are made, and so many bytes of it, or all
+abbrev pub IsMade : ℕ → FullStage → Type 0
+IsMade count (Search s) = ⊥
+IsMade count (Text f) = IsMadeTo count f
+
 -- so many bytes of it are made, or all
 abbrev pub IsReadyTo : ℕ → FullStage → Type 0
 IsReadyTo count (Search s) = count ≤ length s.head

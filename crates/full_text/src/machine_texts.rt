@@ -1,14 +1,15 @@
 //! A machine, and the texts of its checkpoints that are pending.
-ghost use Rattle.std.specs.Prelude.{◌≡◌, ◌≤◌, ◌<◌, ◌+◌, ◌∷◌, ◌++◌, ℕ, List, [], None, IfSome, OnOk, drop, length, max, slice_index_or, vec_capacity};
+ghost use Rattle.std.specs.Prelude.{◌≡◌, ◌≤◌, ◌<◌, ◌+◌, ◌∷◌, ◌++◌, ℕ, List, [], None, Option, IfSome, OnOk, drop, length, max, slice_index_or, vec_capacity};
 ghost use Rattle.net_device.specs.Receive.{received};
 ghost use Rattle.guest_rules.specs.Flags.{KeepsFlags};
 ghost use Rattle.guest_rules.specs.Limits.{stepping_frames};
 ghost use Rattle.guest_rules.specs.Runs.{HaveRoom, after_steps, marked_in, sent_in};
 ghost use Rattle.guest_rules.specs.Step.{arrived};
 ghost use Rattle.full_text.specs.Full.{SearchFits, found_of, most_record, part_of, whole};
-ghost use Rattle.full_text.specs.MachineTexts.{ahead, made_bytes, most_texts, settled_at};
+ghost use Rattle.full_text.specs.MachineTexts.{HaveGoneOn, ahead, made_bytes, most_texts, settled_at};
 ghost use Rattle.full_text.specs.Stages.{IsKept, IsReadyTo};
 ghost use Rattle.full_text.specs.internal.TextFields.{FullFits, full_count, texts_of};
+ghost use Rattle.full_text.specs.declared.stage.FullStage.{FullStage};
 
 use crate::rows::{part_of, put_last};
 use crate::search::PageSearch;
@@ -170,6 +171,7 @@ impl MachineTexts {
         ensures machine { self.new.machine ≡ self.old.machine }
         ensures texts { self.new.texts ≡ self.old.texts }
         ensures made { IfSome self.new.full (IsReadyTo (from + count)) }
+        ensures further { HaveGoneOn (from + count) self.old.full self.new.full }
         ensures no_further { made_bytes self.new.full < max (made_bytes self.old.full + ahead) (from + count) + most_record }
     {
         make_ahead(&self.machine, &mut self.full);
@@ -233,6 +235,7 @@ fn make_ahead(machine: &Machine, full: &mut Option<FullStage>)
     requires { FullFits machine.now full.old }
     ensures fits { FullFits machine.now full.new }
     ensures same { (texts : List (List ℕ)) → texts_of machine.now.settled full.new texts ≡ texts_of machine.now.settled full.old texts }
+    ensures further { HaveGoneOn 0 full.old full.new }
     ensures no_further { made_bytes full.new < made_bytes full.old + ahead + most_record }
 {
     *full = match full.take() {
@@ -247,6 +250,7 @@ fn make_to(machine: &Machine, full: &mut Option<FullStage>, from: u64, count: u6
     ensures fits { FullFits machine.now full.new }
     ensures same { (texts : List (List ℕ)) → texts_of machine.now.settled full.new texts ≡ texts_of machine.now.settled full.old texts }
     ensures made { IfSome full.new (IsReadyTo (from + count)) }
+    ensures further { (before : Option FullStage) → HaveGoneOn 0 before full.old → HaveGoneOn (from + count) before full.new }
     ensures no_further { made_bytes full.old < made_bytes full.new → made_bytes full.new < from + count + most_record }
 {
     *full = match full.take() {

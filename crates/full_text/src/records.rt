@@ -129,6 +129,7 @@ pub(crate) fn put_records(
     ensures items { text.new.items ++ page_records (page_at machine.now.settled kept.now) (drop result pages.now)
         ≡ text.old.items ++ page_records (page_at machine.now.settled kept.now) pages.now }
     ensures size { length text.new.items + records_size (drop result pages.now) ≡ length text.old.items + records_size pages.now }
+    ensures grows { length text.old.items ≤ length text.new.items }
     ensures made { result < length pages.now → from + count ≤ length text.new.items }
     ensures no_further { length text.old.items < length text.new.items → length text.new.items < from + count + most_record }
     ensures room { vec_capacity text.old ≤ vec_capacity text.new }

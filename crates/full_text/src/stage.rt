@@ -1,8 +1,10 @@
 //! The stages of a full checkpoint's text: its pages are searched for, and then its records are made.
 ghost use Rattle.std.specs.Prelude.{◌≡◌, ◌≤◌, ◌<◌, ◌+◌, ℕ, List, OnOk, length};
 ghost use Rattle.full_text.specs.Full.{AreIn, SearchFits, found_of, most_record, part_of, whole};
-ghost use Rattle.full_text.specs.Stages.{IsKept, IsReadyTo, StageFits, made, text_of};
-ghost use Rattle.full_text.specs.MachineTexts.{ahead};
+ghost use Rattle.full_text.specs.MachineTexts.{HasGoneOn, ahead};
+ghost use Rattle.full_text.specs.Stages.{IsKept, IsMade, IsReadyTo, StageFits, made, text_of};
+ghost use Rattle.full_text.specs.declared.stage.FullStage.{FullStage};
+ghost use Rattle.full_text.specs.declared.stage.FullStage.TheVariants.{Search, Text};
 
 use crate::records::ends_before;
 use crate::rows::part_of;
@@ -57,6 +59,7 @@ impl FullStage {
         requires { StageFits machine.now self }
         ensures fits { StageFits machine.now result }
         ensures same { text_of machine.now.settled result ≡ text_of machine.now.settled self }
+        ensures further { HasGoneOn 0 self result }
         ensures no_further { length (made result) < length (made self) + ahead + most_record }
     {
         match self {
@@ -74,6 +77,7 @@ impl FullStage {
         ensures fits { StageFits machine.now result }
         ensures same { text_of machine.now.settled result ≡ text_of machine.now.settled self }
         ensures made { IsReadyTo (from + count) result }
+        ensures further { (before : FullStage) → HasGoneOn 0 before self → HasGoneOn (from + count) before result }
         ensures no_further { length (made self) < length (made result) → length (made result) < from + count + most_record }
     {
         match self {
@@ -96,6 +100,7 @@ fn looked_on(mut search: PageSearch, machine: &Machine) -> FullStage
     requires { SearchFits machine.now.settled search }
     ensures fits { StageFits machine.now result }
     ensures same { text_of machine.now.settled result ≡ whole machine.now.settled (found_of machine.now.settled search) }
+    ensures further { HasGoneOn 0 (Search search) result }
     ensures no_further { length (made result) ≤ length search.head + 4 }
 {
     search.look(machine, LOOK);
@@ -112,6 +117,7 @@ fn searched_to(mut search: PageSearch, machine: &Machine, from: u64, count: u64)
     ensures fits { StageFits machine.now result }
     ensures same { text_of machine.now.settled result ≡ whole machine.now.settled (found_of machine.now.settled search) }
     ensures made { IsReadyTo (from + count) result }
+    ensures further { (before : FullStage) → HasGoneOn 0 before (Search search) → HasGoneOn (from + count) before result }
     ensures no_further { length search.head < length (made result) → length (made result) < from + count + most_record }
 {
     if !ends_before(search.head().len(), from, count) {
@@ -127,6 +133,8 @@ fn made_to(mut text: FullText, machine: &Machine, from: u64, count: u64) -> Full
     ensures fits { StageFits machine.now result }
     ensures same { text_of machine.now.settled result ≡ whole machine.now.settled text }
     ensures made { IsReadyTo (from + count) result }
+    ensures text { IsMade (from + count) result }
+    ensures further { (before : FullStage) → HasGoneOn 0 before (Text text) → HasGoneOn (from + count) before result }
     ensures no_further { length text.made < length (made result) → length (made result) < from + count + most_record }
 {
     let _shape = machine.shape();

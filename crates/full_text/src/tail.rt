@@ -78,6 +78,7 @@ impl Tail {
         requires { length text.old.items + length self.old ≤ vec_capacity text.old }
         ensures items { text.new.items ++ self.new ≡ text.old.items ++ self.old }
         ensures size { length text.new.items + length self.new ≡ length text.old.items + length self.old }
+        ensures grows { length text.old.items ≤ length text.new.items }
         ensures made { length text.new.items < from + count → self.new ≡ [] }
         ensures no_further { length text.old.items < length text.new.items → length text.new.items ≤ from + count }
         ensures room { vec_capacity text.old ≤ vec_capacity text.new }

@@ -75,6 +75,7 @@ impl FullText {
         requires { AreIn (length machine.now.guest.ram) self.old.pages }
         ensures same { whole machine.now.settled self.new ≡ whole machine.now.settled self.old }
         ensures size { size self.new ≡ size self.old }
+        ensures grows { length self.old.made ≤ length self.new.made }
         ensures made { IsMadeTo (from + count) self.new }
         ensures no_further { length self.old.made < length self.new.made → length self.new.made < from + count + most_record }
         ensures pages { AreIn (length machine.now.guest.ram) self.new.pages }

@@ -21,6 +21,7 @@ loop-next-preserved c =
           (c.put_record.ensures.items
           ∙ ap (λ (l : List ℕ). c.loop-next.text.items ++ page_record l (get_or ps i none)) c.page_of.ensures) ∙ c.loop-next.invariant.items;
       size = omega (arith, sizes-next ps i none within, c.put_record.ensures.size, c.loop-next.invariant.size);
+      grows = omega (arith, c.put_record.ensures.size, c.loop-next.invariant.grows);
       no_further = λ grown. omega (arith, c.put_record.ensures.size, c.put_record.ensures.most, c.ends_before.ensures.yes c.if-ends_before.true, c.len.ensures);
       room = omega (arith, c.loop-next.invariant.room, c.put_record.ensures.room);
     }

@@ -8,6 +8,7 @@ invariant-loop-next l = record {
   last : l.next ≤ length l.pages;
   items : l.text.items ++ page_records (page_at l.machine.settled l.kept) (drop l.next l.pages) ≡ l.fn.text.items ++ page_records (page_at l.machine.settled l.kept) l.pages;
   size : length l.text.items + records_size (drop l.next l.pages) ≡ length l.fn.text.items + records_size l.pages;
+  grows : length l.fn.text.items ≤ length l.text.items;
   no_further : length l.fn.text.items < length l.text.items → length l.text.items < l.from + l.count + most_record;
   room : vec_capacity l.fn.text ≤ vec_capacity l.text;
 }
