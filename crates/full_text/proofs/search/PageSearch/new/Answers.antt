@@ -1,9 +1,10 @@
 -- Head, count, records and sectors are the text of the machine's full checkpoint.
-use Rattle.std.proofs.Common.{◌≡◌, ℕ, ◌*◌, ◌^◌, ◌<◌, ◌≤◌, ◌++◌, List, length, refl, sym, ap, ◌∙◌, subst, arith}
+use Rattle.std.proofs.Common.{◌≡◌, ℕ, ◌*◌, ◌^◌, ◌<◌, ◌≤◌, ◌++◌, List, Option, length, refl, sym, ap, ◌∙◌, subst, arith}
 use Rattle.guest_rules.specs.Guest.{State}
 use Rattle.guest_rules.specs.MachineStates.{IsMachineState, state_of, with_state}
 use Rattle.guest_rules.specs.declared.machine_state.MachineState.{MachineState}
 use Rattle.guest_rules.specs.declared.shapes.Shape.{Shape}
+use Rattle.epoch_snapshot.specs.declared.changes.PageChange.{PageChange}
 use Rattle.epoch_snapshot.specs.Bases.{IsFullCut}
 use Rattle.epoch_snapshot.specs.Checkpoints.{Change, IsCanonical}
 use Rattle.epoch_snapshot.specs.Cuts.{changed_pages, used_sectors}
@@ -22,20 +23,17 @@ canonical : (m : State) (shape : Shape) (g : ℕ) → length m.guest.ram ≡ 409
 canonical m shape g pages sectors law first last is rules =
     law m g (full_change shape m g) (full-cut shape m g pages sectors) first last (subst IsMachineState is rules)
 
+-- of its pages none is looked at
+abbrev fresh : List ℕ → List PageChange → ℕ → List (Option (List ℕ)) → List ℕ → Searching
+fresh head found pages kept tail = record { head = head; found = found; looked = 0; pages = pages; kept = kept; tail = tail }
+
 pub returns-clause-text : goal.returns-clause-text
 returns-clause-text c =
     let m = c.args.machine.now in
     let ram = m.guest.ram in
     let shape = c.shape-shape.result in
     let g = c.args.generation in
-    let s : Searching = record {
-      head = c.put.new.text.items;
-      found = c.in_ok-found.found.items;
-      looked = 0;
-      pages = shape.pages;
-      kept = c.new.result;
-      tail = c.in_ok-tail.tail;
-    } in
+    let s = fresh c.put.new.text.items c.in_ok-found.found.items shape.pages c.new.result c.in_ok-tail.tail in
     let f = found_of ram s in
     let all : with_state m.guest (state_of m.guest) ≡ m.guest =
     ap (with_state m.guest) (sym c.state-state.ensures.value) ∙ c.state-state.ensures.whole in
@@ -67,14 +65,7 @@ returns-clause-most c =
     let m = c.args.machine.now in
     let ram = m.guest.ram in
     let shape = c.shape-shape.result in
-    let s : Searching = record {
-      head = c.put.new.text.items;
-      found = c.in_ok-found.found.items;
-      looked = 0;
-      pages = shape.pages;
-      kept = c.new.result;
-      tail = c.in_ok-tail.tail;
-    } in
+    let s = fresh c.put.new.text.items c.in_ok-found.found.items shape.pages c.new.result c.in_ok-tail.tail in
     let cut = full-cut shape m c.args.generation c.shape-shape.ensures.pages c.shape-shape.ensures.sectors in
     most-is c.masks_name_blocks.ensures.all c.pages_are_their_blocks.ensures.own shape m c.args.generation s c.new.ensures
     c.shape-shape.ensures.pages
