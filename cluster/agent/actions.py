@@ -20,6 +20,7 @@ class Pair:
         self.resource = os.environ.get("OCF_RESOURCE_INSTANCE", "pair").partition(":")[0]
         self.daemon, self.cluster = Daemon(self.resource), Cluster(self.resource)
         self.asked = self.daemon.started + ".given-up"  # is there while this host has given its standby up
+        self.gone = self.daemon.started + ".gone"  # the standby that the last monitor saw gone
 
     # Scores.
 
@@ -86,26 +87,48 @@ class Pair:
 
     def goes_alone(self, status: dict) -> bool:
         """Has the guest go on alone where its standby has surely stopped and no notification said so: Pacemaker forgets one where it gives
-        up what it was about, since its members change meanwhile. Another instance has come from the standby's host since; or nothing comes
-        from the standby any more, or the guest stands, and the cluster's state has none that runs elsewhere. Where anything fails it is
-        tried again by the next monitor."""
-        if status["mode"] == "alone" or not status["peer"].get("instance"):
+        up what it was about, since its members change meanwhile. Where anything fails it is tried again by the next monitor."""
+        last, standby = self.take_gone(), status["peer"].get("instance")
+        if status["mode"] == "alone" or not standby:
+            return False
+        why = self.why_stopped(status, last == standby)
+        if why is None:
             return False
         try:
-            if status["peer"].get("successor"):
-                why = f"another instance, {status['peer']['successor']}, has come from its host"
-            elif (status["role"] == "frozen" or self.has_stalled(status)) and self.cluster.has_stopped_elsewhere():
-                why = "Pacemaker says so, and no notification did"
-            else:
-                return False
             self.refuse_unsafe()
             self.cluster.write_life(str(Life(status["life"], status["generation"])))
-            self.daemon.command("alone", standby=status["peer"]["instance"])
+            self.daemon.command("alone", standby=standby)
         except Failure as failure:
             warn(f"the guest doesn't go on alone yet. {failure.reason}")
             return False
-        warn(f"the standby {status['peer']['instance']} has stopped: {why}. The guest goes on alone")
+        warn(f"the standby {standby} has stopped: {why}. The guest goes on alone")
         return True
+
+    def why_stopped(self, status: dict, was_gone: bool) -> str | None:
+        """Why its standby has surely stopped, if so. Another instance has come from its host since. Or nothing comes from it any more, or
+        the guest stands, and for two monitors in a row the cluster's state has none that runs elsewhere: while a node comes back, what runs
+        there isn't shown for a moment."""
+        peer = status["peer"]
+        if peer.get("successor"):
+            return f"another instance, {peer['successor']}, has come from its host"
+        if (status["role"] == "frozen" or self.has_stalled(status)) and self.cluster.has_stopped_elsewhere():
+            self.note(self.gone, peer["instance"])
+            return "Pacemaker says so, and no notification did" if was_gone else None
+        return None
+
+    def take_gone(self) -> str:
+        try:
+            with open(self.gone, encoding="utf-8") as file:
+                standby = file.read()
+            os.unlink(self.gone)
+        except FileNotFoundError:
+            return ""
+        return standby
+
+    def note(self, path: str, text: str = "") -> None:
+        os.makedirs(self.daemon.folder, mode=0o755, exist_ok=True)
+        with open(path, "w", encoding="utf-8") as file:
+            file.write(text)
 
     def absent(self) -> int:
         """Nobody listens: no daemon was started, or it has ended, or it hangs."""
@@ -145,9 +168,7 @@ class Pair:
         if standby and self.has_stalled(status):
             warn(f"nothing was acknowledged for {status['unacknowledged_ms']} ms: the standby {standby} is given up")
             self.cluster.give_up(standby)
-            os.makedirs(self.daemon.folder, mode=0o755, exist_ok=True)
-            with open(self.asked, "w", encoding="utf-8"):
-                pass
+            self.note(self.asked)
         elif os.path.exists(self.asked):
             self.cluster.keep()
             os.unlink(self.asked)
