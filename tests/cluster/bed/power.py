@@ -20,7 +20,7 @@ OFF_SECONDS = 0.5  # how long a host is off in a reboot
 class Power:
     def __init__(self, folder):
         self.folder, self.hosts, self.lock = folder, {}, threading.Lock()
-        self.log, self.answers, self.kills = [], True, True
+        self.log, self.answers, self.kills, self.boots = [], True, True, True
         self.cut_off = set()  # hosts whose plugs are pulled, and that may run: they don't reach the switch either
         self.socket = socket.socket(socket.AF_UNIX)
         path = folder / "power"
@@ -101,7 +101,7 @@ class Power:
 
     def reboot(self, host):
         self.off(host)
-        if self.kills:
+        if self.kills and self.boots:
             threading.Timer(OFF_SECONDS, self.on, [host]).start()
 
     def end(self):

@@ -131,26 +131,29 @@ def hang(row, times):
 
 def wakes(row, times):
     """The standby hangs, and is woken while it is being fenced. The cluster's members change meanwhile, so Pacemaker doesn't say that the
-    standby has stopped, and the agent has to see it."""
+    standby has stopped, and the agent has to see it: where its host boots then, and where that stays off."""
     bed = row.bed
     for row.tries in range(1, times + 1):
-        live, standby = bed.pair()
-        with row.clients() as clients:
-            begin = time.time()
-            bed.power.answers = False
-            bed.power.signal_all(standby, signal.SIGSTOP)
-            bed.until(lambda: bed.power.since(begin, "asked", standby), 20, "a host that is to be fenced")
-            bed.power.signal_all(standby, signal.SIGCONT)
-            bed.power.answers = True
-            off = bed.until(lambda: bed.power.since(begin, "off", standby), 20, "a host that is fenced")
-            alone = bed.until(lambda: bed.when(live, "^alone in generation", begin), 30, "alone")
-            time.sleep(0.5)
-        row.expect(off < alone, "it went alone before the standby was fenced")
-        row.expect(bed.live() == live, "the live host isn't live any more")
-        row.note("alone after", alone - begin)
-        row.pauses(clients, begin)
-        row.check(clients)
-        bed.pair()
+        for boots in (True, False):
+            live, standby = bed.pair()
+            with row.clients() as clients:
+                begin = time.time()
+                bed.power.answers, bed.power.boots = False, boots
+                bed.power.signal_all(standby, signal.SIGSTOP)
+                bed.until(lambda: bed.power.since(begin, "asked", standby), 20, "a host that is to be fenced")
+                bed.power.signal_all(standby, signal.SIGCONT)
+                bed.power.answers = True
+                off = bed.until(lambda: bed.power.since(begin, "off", standby), 20, "a host that is fenced")
+                alone = bed.until(lambda: bed.when(live, "^alone in generation", begin), 30, "alone")
+                time.sleep(0.5)
+            row.expect(off < alone, "it went alone before the standby was fenced")
+            row.expect(bed.live() == live, "the live host isn't live any more")
+            row.note("alone after" if boots else "it stays off: alone after", alone - begin)
+            row.pauses(clients, begin)
+            row.check(clients)
+            bed.power.boots = True
+            bed.power.on(standby)
+            bed.pair()
 
 
 def killed(row, times):
@@ -398,7 +401,7 @@ def tried(bed, name, times=None, only=None):
             what(row, times or count)
         except (TooLate, subprocess.TimeoutExpired) as late:
             row.expect(False, str(late))
-            bed.power.answers = bed.power.kills = True
+            bed.power.answers = bed.power.kills = bed.power.boots = True
             network.heal()
             bed.new(guest)
     return row
