@@ -107,8 +107,8 @@ pub record SearchFits (ram : List ℕ) (s : Searching) : Type 0 where
 abbrev pub most : Searching → ℕ
 most s = length s.head + 4 + most_record * s.pages + length s.tail
 
--- THE MOST BYTES that the text of a full checkpoint of this memory may have where nothing of the memory is known, as if no block of it were all
--- zero: so many more than it has as the records of all pages would have more than those that it has
+-- THE MOST BYTES that the text of a full checkpoint of this memory may have, for one who knows nothing of the memory but its size: the text's
+-- own, with the longest record for each page in place of the records that it has
 abbrev pub IsMost : ℕ → List ℕ → List ℕ → Type 0
 IsMost bytes text ram =
     let pages = length ram / page_bytes in

@@ -28,8 +28,8 @@ ahead = 2 ^ 20
 abbrev pub look : ℕ
 look = 1024
 
--- HOW IT GOES ON where its bytes up to a place are asked for: so many pages more are looked at, and all where bytes behind the head are asked
--- for; or so many bytes more are made, or all that are left
+-- HOW IT GOES ON where its bytes up to a place are asked for. Its pages are searched for: it looks at so many pages more, or it has looked at all
+-- pages, as it must where bytes behind the head are asked for. They are found: so many bytes more are made, or all that are left.
 abbrev pub HasGoneOn : ℕ → FullStage → FullStage → Type 0
 HasGoneOn to (Search s) (Search t) = t ≡ record s { found = t.found; looked = s.looked + look }
 HasGoneOn to (Search s) (Text f) = to ≤ length s.head → s.pages ≤ s.looked + look

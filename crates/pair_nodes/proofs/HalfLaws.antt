@@ -7,6 +7,7 @@ use Rattle.epoch_snapshot.specs.Checkpoints.{Change}
 use Rattle.checkpoint_stream.specs.{Readings.is_whole, Sound.change_in, declared.place.Place.TheVariants.Whole}
 use Rattle.failover.specs.Generations.{generation_limit}
 use Rattle.frame_ports.specs.Limits.{number_limit}
+use Rattle.full_text.specs.Full.{IsMost}
 use Rattle.guest_rules.specs.Runs.{sent_in, HaveRoom}
 use Rattle.pair_history.specs.Entries.{Frame}
 use Rattle.pair_record.specs.declared.event.{Packet.Packet, Refusal.{Refusal}, Refusal.TheVariants.{CutNeeded, NotPaired, AlreadyPaired, Exhausted, Stale, NoImage}}
@@ -69,12 +70,12 @@ alone_happens s free few =
     (has s.primary.backed one.0, few, refl)
 
 pub protect_happens : (s : Site) (count : ℕ) (q : Primary) → IsProtected s.primary count q
-    → (text : List ℕ) × (length text ≤ count) × Happens s (protects text) (protect_site s text) × ((protect_site s text).primary ≡ q)
+    → (text : List ℕ) × IsMost count text s.primary.live.guest.ram × Happens s (protects text) (protect_site s text) × ((protect_site s text).primary ≡ q)
 protect_happens s count q x =
     let p = s.primary in
     let one = passed p.backed AlreadyPaired _ x.free in
     let two = passed (nat_le generation_limit (p.generation + 1)) Exhausted None one.1 in
-    (x.text, x.bytes.0, (one.0, last-generation p.generation two.0, x.full, refl), sym x.left)
+    (x.text, x.bytes, (one.0, last-generation p.generation two.0, x.full, refl), sym x.left)
 
 pub step_happens : (s : Site) (count made : ℕ) (q : Primary) → s.primary.backed ≡ true → IsSteps count s.primary (Ok made) q
     → Happens s (steps made) (run_site made s) × ((run_site made s).primary ≡ q)

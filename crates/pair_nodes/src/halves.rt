@@ -1,6 +1,7 @@
 //! What a node's calls answer and leave is what may happen at its half of a run.
 ghost use Rattle.std.specs.Prelude.{◌≡◌, ◌≤◌, ◌<◌, ◌++◌, ◌∷◌, ℕ, List, [], Ok, Err, true, false, length};
 ghost use Rattle.checkpoint_stream.specs.declared.place.Place.TheVariants.{Whole};
+ghost use Rattle.full_text.specs.Full.{IsMost};
 ghost use Rattle.pair_record.specs.declared.event.Packet.{Packet};
 ghost use Rattle.pair_record.specs.declared.event.Refusal.TheVariants.{CutNeeded};
 ghost use Rattle.pair_nodes.specs.PrimaryCalls.{IsSealed, IsSteps, IsProtected, ack_rows, alone_rows, after_release, part_of, text_part};
@@ -24,7 +25,7 @@ pub fn what_a_primary_does_may_happen()
     ensures alone { (s : Site) → IsFree (alone_rows s.primary) → length s.primary.live.outbox ≤ 256
         → Happens s goes_alone (alone_site s) × ((alone_site s).primary ≡ after_alone s.primary) }
     ensures protect { (s : Site) (count : ℕ) (q : Primary) → IsProtected s.primary count q
-        → (text : List ℕ) × (length text ≤ count) × Happens s (protects text) (protect_site s text) × ((protect_site s text).primary ≡ q) }
+        → (text : List ℕ) × IsMost count text s.primary.live.guest.ram × Happens s (protects text) (protect_site s text) × ((protect_site s text).primary ≡ q) }
     ensures step { (s : Site) (count made : ℕ) (q : Primary) → s.primary.backed ≡ true → IsSteps count s.primary (Ok made) q
         → Happens s (steps made) (run_site made s) × ((run_site made s).primary ≡ q) }
     ensures full { (s : Site) (count : ℕ) (q : Primary) → IsSteps count s.primary (Err CutNeeded) q

@@ -9,7 +9,7 @@ returns-clause-primary c = λ no_memory s flags line printed q reached h.
       cut = laws.cut s;
       acknowledge = laws.acknowledge s;
       alone = laws.alone s;
-      protect = laws.protect s;
+      protect = λ count q x. let made = laws.protect s count q x in (made.0, made.1.0, made.2, made.3);
       step = laws.step s;
       full = laws.full s;
       lone = laws.lone s;
