@@ -192,7 +192,9 @@ run_program() {
     trap 'stopped=INT; kill "$child" 2>/dev/null' INT
     trap 'stopped=TERM; kill "$child" 2>/dev/null' TERM
     trap 'stopped=HUP; kill "$child" 2>/dev/null' HUP
-    "$program" ${words[@]+"${words[@]}"} <&0 2>&"$words_said" {words_said}>&- &
+    # A guest's memory is filled as a whole, which takes less time in huge pages (docs/DECISIONS.md).
+    GLIBC_TUNABLES="glibc.malloc.hugetlb=1${GLIBC_TUNABLES:+:$GLIBC_TUNABLES}" \
+        "$program" ${words[@]+"${words[@]}"} <&0 2>&"$words_said" {words_said}>&- &
     child=$!
     # One that came before the child was known.
     [ -z "$stopped" ] || kill "$child" 2>/dev/null
