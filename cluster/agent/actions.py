@@ -121,14 +121,18 @@ class Pair:
             with open(self.gone, encoding="utf-8") as file:
                 standby = file.read()
             os.unlink(self.gone)
-        except FileNotFoundError:
+        except (OSError, ValueError):
             return ""
         return standby
 
     def note(self, path: str, text: str = "") -> None:
-        os.makedirs(self.daemon.folder, mode=0o755, exist_ok=True)
-        with open(path, "w", encoding="utf-8") as file:
-            file.write(text)
+        """That no note can be kept is no failure of the guest's."""
+        try:
+            os.makedirs(self.daemon.folder, mode=0o755, exist_ok=True)
+            with open(path, "w", encoding="utf-8") as file:
+                file.write(text)
+        except OSError as error:
+            warn(f"{path} can't be written: {error}")
 
     def absent(self) -> int:
         """Nobody listens: no daemon was started, or it has ended, or it hangs."""
