@@ -11,6 +11,34 @@ from pathlib import Path
 from host import ctl
 
 ROOT = Path(__file__).resolve().parents[1]
+EXITING = 0x4  # of a task's flags (proc(5)): it ends, in the kernel, and runs no code of its own any more
+
+
+def fields_of(stat):
+    """The fields of a process's or a task's `stat` behind its name: its state is the first, its group the third, its flags the seventh."""
+    text = Path(stat).read_text()
+    return text[text.rindex(")") + 2 :].split()
+
+
+def group_of(leader):
+    """The processes of a group."""
+    found = []
+    for entry in Path("/proc").iterdir():
+        try:
+            if entry.name.isdigit() and fields_of(entry / "stat")[2] == str(leader):
+                found.append(int(entry.name))
+        except (OSError, ValueError):
+            continue
+    return found
+
+
+def runs(process):
+    """Whether a process may still run code of its own: it isn't gone, and one of its tasks doesn't end."""
+    try:
+        tasks = [fields_of(task / "stat") for task in Path(f"/proc/{process}/task").iterdir()]
+    except (OSError, ValueError):
+        return Path(f"/proc/{process}").exists() and runs(process)
+    return any(fields[0] not in "ZX" and not int(fields[6]) & EXITING for fields in tasks)
 
 
 def free_ports(count):
@@ -49,6 +77,16 @@ class Host:
 
     def signal(self, number):
         os.killpg(self.process.pid, number)
+
+    def halt(self):
+        """Kills the whole group, waits until nothing of it runs, and answers when it was killed. What the kernel takes down of it, its tap
+        above all, may take longer: for that `kill` waits."""
+        group = group_of(self.process.pid)
+        killed = time.monotonic()
+        self.signal(signal.SIGKILL)
+        while any(runs(process) for process in group):
+            time.sleep(0.0005)
+        return killed
 
     def kill(self):
         """Kills the whole group, and waits until it is gone."""
