@@ -36,8 +36,8 @@ def runs(process):
     """Whether a process may still run code of its own: it isn't gone, and one of its tasks doesn't end."""
     try:
         tasks = [fields_of(task / "stat") for task in Path(f"/proc/{process}/task").iterdir()]
-    except (OSError, ValueError):
-        return Path(f"/proc/{process}").exists() and runs(process)
+    except (OSError, ValueError):  # one of them has just gone, or all
+        return Path(f"/proc/{process}").exists()
     return any(fields[0] not in "ZX" and not int(fields[6]) & EXITING for fields in tasks)
 
 
@@ -81,10 +81,9 @@ class Host:
     def halt(self):
         """Kills the whole group, waits until nothing of it runs, and answers when it was killed. What the kernel takes down of it, its tap
         above all, may take longer: for that `kill` waits."""
-        group = group_of(self.process.pid)
         killed = time.monotonic()
         self.signal(signal.SIGKILL)
-        while any(runs(process) for process in group):
+        while any(runs(process) for process in group_of(self.process.pid)):
             time.sleep(0.0005)
         return killed
 
