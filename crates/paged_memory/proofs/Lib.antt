@@ -4,3 +4,4 @@ pub mod ListedLemmas
 pub mod PageLemmas
 pub mod SeenLemmas
 pub mod StoredLemmas
+pub mod UntouchedLemmas

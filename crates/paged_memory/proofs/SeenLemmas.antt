@@ -11,16 +11,17 @@ use Rattle.paged_memory.specs.{Pages.{with_written, settled_at}, Stored.{settled
 use Rattle.paged_memory.specs.laws.Bytes.{length_overwritten}
 use Rattle.paged_memory.proofs.FlagLemmas.{one_more, few_marked}
 use Rattle.paged_memory.specs.laws.Flags.{no_pages, marked_none}
-use Rattle.paged_memory.proofs.{PageLemmas.length_marked, StoredLemmas.{settled_by_keep, settled_by_write, settled_afresh, stored_by_write}}
+use Rattle.paged_memory.proofs.PageLemmas.{length_marked, other_byte}
+use Rattle.paged_memory.proofs.StoredLemmas.{settled_by_keep, settled_by_write, settled_afresh, stored_by_write}
 use Rattle.paged_memory.proofs.StoredLemmas.{one_page_more, paged}
 
 -- a page is kept
-pub seen_by_keep : (m : Paged) (b o x : List ℕ) (w : List Bool) (p q d : List ℕ) (space capacity copies page : ℕ) →
-    IsStored b o w p d space capacity copies → seen b o w p copies ≡ m → page < length w → is_written w page ≡ false →
+pub seen_by_keep : (m : Paged) (b o x : List ℕ) (w t : List Bool) (p q d : List ℕ) (space capacity copies page : ℕ) →
+    IsStored b o w t p d space capacity copies → seen b o w p copies ≡ m → page < length w → is_written w page ≡ false →
     x ≡ o ++ page_of b page → q ≡ set p page (length d) →
     seen b x (set w page true) q ((copies + 1) % 2 ^ 64)
     ≡ record m { written = set m.written page true; copies = (m.copies + 1) % 2 ^ 64 }
-seen_by_keep m b o x w p q d space capacity copies page is view here none kept put =
+seen_by_keep m b o x w t p q d space capacity copies page is view here none kept put =
     let with_settled : List ℕ → Paged =
     λ xs. record { bytes = b; settled = xs; written = set w page true; copies = (copies + 1) % 2 ^ 64 } in
     let next : Paged → Paged = λ q. record q { written = set q.written page true; copies = (q.copies + 1) % 2 ^ 64 } in
@@ -28,18 +29,18 @@ seen_by_keep m b o x w p q d space capacity copies page is view here none kept p
     ∙ ap with_settled (settled_by_keep b o x w p (length d) page is.whole is.kept is.numbered is.placed here none kept) ∙ ap next view
 
 -- bytes are written to pages that were kept
-pub record AfterWrite (m : Paged) (c o : List ℕ) (w : List Bool) (p d : List ℕ) (space capacity copies at n : ℕ) (after : List ℕ) : Type 0
+pub record AfterWrite (m : Paged) (c o : List ℕ) (w t : List Bool) (p d : List ℕ) (space capacity copies at n : ℕ) (after : List ℕ) : Type 0
   where
-    pub stored : IsStored c o w p d space capacity copies
+    pub stored : IsStored c o w t p d space capacity copies
     pub value : seen c o w p copies ≡ with_written m at n after
     pub size : length after ≡ length m.bytes
     pub pages : length (marked m.written at n) ≡ length m.written
 
-pub after_write : (m : Paged) (b c o new : List ℕ) (w : List Bool) (p d : List ℕ) (space capacity copies at n : ℕ) → length new ≡ n →
-    at + n ≤ length m.bytes → IsPaged m → IsStored b o w p d space capacity copies → seen b o w p copies ≡ with_written m at n m.bytes →
+pub after_write : (m : Paged) (b c o new : List ℕ) (w t : List Bool) (p d : List ℕ) (space capacity copies at n : ℕ) → length new ≡ n →
+    at + n ≤ length m.bytes → IsPaged m → IsStored b o w t p d space capacity copies → seen b o w p copies ≡ with_written m at n m.bytes →
     c ≡ take at b ++ (new ++ drop (at + n) b) →
-    AfterWrite m c o w p d space capacity copies at n (take at m.bytes ++ (new ++ drop (at + n) m.bytes))
-after_write m b c o new w p d space capacity copies at n long fits rules is view put =
+    AfterWrite m c o w t p d space capacity copies at n (take at m.bytes ++ (new ++ drop (at + n) m.bytes))
+after_write m b c o new w t p d space capacity copies at n long fits rules is view put =
     let same : b ≡ m.bytes = ap (λ (q : Paged). q.bytes) view in
     let flags : w ≡ marked m.written at n = ap (λ (q : Paged). q.written) view in
     let whole : length m.bytes ≡ 4096 * length m.written = rules.whole in
@@ -48,7 +49,8 @@ after_write m b c o new w p d space capacity copies at n long fits rules is view
     let with_now : List ℕ → Paged = λ xs. record { bytes = xs; settled = settled_bytes b o w p; written = w; copies = copies } in
     let next : Paged → Paged = λ q. record q { bytes = take at q.bytes ++ (new ++ drop (at + n) q.bytes) } in
     record {
-      stored = stored_by_write b c o w p d space capacity copies (ap length put ∙ length_overwritten b new at n inside long) is;
+      stored = stored_by_write b c o w t p d space capacity copies (ap length put ∙ length_overwritten b new at n inside long)
+          (λ i none. other_byte b c new m.written w at n i long inside (omega (arith, ap length same)) put flags none) is;
       value = ap with_settled (settled_by_write b c o new m.written w p at n long inside (ap length same ∙ whole) put flags)
           ∙ ap with_now put ∙ ap next view;
       size = length_overwritten m.bytes new at n fits long;
@@ -56,34 +58,33 @@ after_write m b c o new w p d space capacity copies at n long fits rules is view
     }
 
 -- the same of a number
-pub after_number : (m : Paged) (b c o : List ℕ) (w : List Bool) (p d : List ℕ) (space capacity copies at n value : ℕ) →
-    length (little_bytes n value) ≡ n → at + n ≤ length m.bytes → IsPaged m → IsStored b o w p d space capacity copies →
+pub after_number : (m : Paged) (b c o : List ℕ) (w t : List Bool) (p d : List ℕ) (space capacity copies at n value : ℕ) →
+    length (little_bytes n value) ≡ n → at + n ≤ length m.bytes → IsPaged m → IsStored b o w t p d space capacity copies →
     seen b o w p copies ≡ with_written m at n m.bytes → c ≡ with_number b at n value →
-    AfterWrite m c o w p d space capacity copies at n (with_number m.bytes at n value)
+    AfterWrite m c o w t p d space capacity copies at n (with_number m.bytes at n value)
 unfolding with_number
-after_number m b c o w p d space capacity copies at n value long fits rules is view put =
-    after_write m b c o (little_bytes n value) w p d space capacity copies at n long fits rules is view put
+after_number m b c o w t p d space capacity copies at n value long fits rules is view put =
+    after_write m b c o (little_bytes n value) w t p d space capacity copies at n long fits rules is view put
 
 -- the memory is settled
-pub seen_by_settle : (m : Paged) (b o x : List ℕ) (w v : List Bool) (p d : List ℕ) (space capacity copies : ℕ) →
-    IsStored b o w p d space capacity copies → seen b o w p copies ≡ m → v ≡ replicate (length w) false →
+pub seen_by_settle : (m : Paged) (b o x : List ℕ) (w v : List Bool) (p : List ℕ) (copies : ℕ) → length b ≡ 4096 * length w →
+    seen b o w p copies ≡ m → v ≡ replicate (length w) false →
     seen b x v p copies ≡ settled_at m.bytes (length m.written) m.copies
-seen_by_settle m b o x w v p d space capacity copies is view none =
+seen_by_settle m b o x w v p copies whole view none =
     let with_settled : List ℕ → Paged = λ xs. record { bytes = b; settled = xs; written = v; copies = copies } in
     let with_none : List Bool → Paged = λ fs. record { bytes = b; settled = b; written = fs; copies = copies } in
     let next : Paged → Paged = λ q. settled_at q.bytes (length q.written) q.copies in
-    ap with_settled (settled_afresh b x v p (length w) is.whole none) ∙ ap with_none none ∙ ap next view
+    ap with_settled (settled_afresh b x v p (length w) whole none) ∙ ap with_none none ∙ ap next view
 
 -- bytes are put into a memory of which no page counts as written, and it stays so
-pub seen_unmarked : (m : Paged) (b c o : List ℕ) (w : List Bool) (p d : List ℕ) (space capacity copies : ℕ) (put : List ℕ → List ℕ) →
-    IsStored b o w p d space capacity copies → seen b o w p copies ≡ m → m.written ≡ replicate (length m.written) false → c ≡ put b →
+pub seen_unmarked : (m : Paged) (b c o : List ℕ) (w : List Bool) (p : List ℕ) (copies : ℕ) (put : List ℕ → List ℕ) →
+    length b ≡ 4096 * length w → seen b o w p copies ≡ m → m.written ≡ replicate (length m.written) false → c ≡ put b →
     length c ≡ length b → seen c o w p copies ≡ settled_at (put m.bytes) (length m.written) m.copies
-seen_unmarked m b c o w p d space capacity copies put is view clear after long =
+seen_unmarked m b c o w p copies put whole view clear after long =
     let flags : w ≡ m.written = ap (λ (q : Paged). q.written) view in
     let none : w ≡ replicate (length w) false = flags ∙ clear ∙ ap (λ (fs : List Bool). replicate (length fs) false) (sym flags) in
     let next : Paged → Paged = λ q. settled_at (put q.bytes) (length q.written) q.copies in
-    seen_by_settle (seen c o w p copies) c o o w w p d space capacity copies (stored_by_write b c o w p d space capacity copies long is)
-    refl none
+    seen_by_settle (seen c o w p copies) c o o w w p copies (long ∙ whole) refl none
     ∙ ap (λ (xs : List ℕ). settled_at xs (length w) copies) after
     ∙ ap next view
 
@@ -184,9 +185,9 @@ pub record IsNext (m : Paged) (from least : ℕ) : Type 0 where
   pub before : AreUnwritten m.bytes m.settled m.written from least
 
 -- the least of the listed pages is
-pub next_is : (b o : List ℕ) (w : List Bool) (p d : List ℕ) (space capacity copies from end least : ℕ) → end ≡ length w →
-    IsStored b o w p d space capacity copies → IsLeast d from end (length d) least → IsNext (seen b o w p copies) from least
-next_is b o w p d space capacity copies from end least pages is next = record {
+pub next_is : (b o : List ℕ) (w t : List Bool) (p d : List ℕ) (space capacity copies from end least : ℕ) → end ≡ length w →
+    IsStored b o w t p d space capacity copies → IsLeast d from end (length d) least → IsNext (seen b o w p copies) from least
+next_is b o w t p d space capacity copies from end least pages is next = record {
   here = elim next.found [
     | inl none ↦ get_or_past w least true (omega (arith, none, pages))
     | inr listed ↦ All-contains (λ page. is_written w page ≡ true) d least is.only listed
@@ -198,7 +199,7 @@ next_is b o w p d space capacity copies from end least pages is next = record {
 }
   where
     rules : IsPaged (seen b o w p copies)
-    rules = paged b o w p d space capacity copies is
+    rules = paged b o w t p d space capacity copies is
 
     unwritten : (page : ℕ) → from ≤ page → page < least → is_written w page ≡ false
     unwritten page low high = elim (cases_Bool (is_written w page)) [

@@ -1,38 +1,18 @@
 -- What is seen of a memory's parts: the bytes at the last settle, and the rules.
 use Rattle.std.proofs.Common.{rules}
-use Rattle.std.proofs.lemmas.{Bool.{true≢false, cases_eq}, List.{ext_get_or, get_or_append_left, get_or-append_right, length-take-le}}
-use Rattle.std.proofs.lemmas.List.{length-set, length-replicate, length_push, length-append, get_or-drop, get_or-take, get_or-replicate}
+use Rattle.std.proofs.lemmas.{Bool.{true≢false, cases_eq}, List.{ext_get_or, get_or_append_left, get_or-append_right}}
+use Rattle.std.proofs.lemmas.List.{length-set, length-replicate, length_push, length-append, get_or-replicate}
 use Rattle.std.proofs.lemmas.List.{get_or-set_other, Elements.{Contains-append_left, Contains-push, All-push, All-nil, All-weaker}}
 use Rattle.std.proofs.lemmas.List.{Sums.{count_by-le-length, sum_by-set}, Folds.sum_by-replicate, FromFn.get_or-map-range_with_len}
-use Rattle.std.proofs.{lemmas.{List.FromFn.length-map-range_with_len, Grind.get_or-set_at}, Common.{◌≡◌, ℕ, zero, suc, ◌+◌, ◌-◌, ◌*◌, ◌/◌}}
+use Rattle.std.proofs.{lemmas.{List.FromFn.length-map-range_with_len, Grind.get_or-set_at}, Common.{◌≡◌, ℕ, ◌+◌, ◌-◌, ◌*◌, ◌/◌}}
 use Rattle.std.proofs.Common.{◌%◌, ◌^◌, ◌<◌, ◌≤◌, ◌++◌, inl, inr, Bool, true, false, if◌then◌else◌, cond, List, [], ◌∷◌, length, replicate}
 use Rattle.std.proofs.{Common.{take, drop, get_or, All, Contains, refl, sym, ap, ◌∙◌, subst, zero-add, add-zero, arith}, Math.ListN.set}
 use Rattle.paged_memory.specs.Limits.{most_pages}
 use Rattle.paged_memory.specs.{Pages.{IsPaged, page_of, is_written, written_pages, flagged, marked}, Stored.{original_byte, settled_bytes}}
-use Rattle.paged_memory.specs.Stored.{seen, IsStored}
+use Rattle.paged_memory.specs.Stored.{seen, AreUntouched, IsStored}
 use Rattle.paged_memory.specs.laws.Bytes.{length_overwritten}
-use Rattle.paged_memory.specs.laws.Flags.{no_new_flag, marked_some}
-use Rattle.paged_memory.proofs.PageLemmas.{nothing_written, length-page}
-
--- ---- bytes that were put somewhere
-
-put_before : (xs new : List ℕ) (at n i : ℕ) → at ≤ length xs → i < at → get_or (take at xs ++ (new ++ drop (at + n) xs)) i 0 ≡ get_or xs i 0
-put_before xs new at n i within below =
-    get_or_append_left (take at xs) (new ++ drop (at + n) xs) 0 i (omega (arith, length-take-le at xs within)) ∙ get_or-take at xs i 0 below
-
-put_after : (xs new : List ℕ) (at n i : ℕ) → length new ≡ n → at ≤ length xs → at + n ≤ i →
-    get_or (take at xs ++ (new ++ drop (at + n) xs)) i 0 ≡ get_or xs i 0
-put_after xs new at n i long within above =
-    let place : at + n + (i - at - n) ≡ i = omega arith in
-    get_or-append_right (take at xs) (new ++ drop (at + n) xs) at i 0 (length-take-le at xs within) (omega arith)
-    ∙ get_or-append_right new (drop (at + n) xs) n (i - at) 0 long (omega arith)
-    ∙ get_or-drop (at + n) xs (i - at - n) 0
-    ∙ ap (λ (k : ℕ). get_or xs k 0) place
-
--- a byte of a page
-byte_of_page : (xs : List ℕ) (page k : ℕ) → k < 4096 → get_or (page_of xs page) k 0 ≡ get_or xs (4096 * page + k) 0
-byte_of_page xs page k small =
-    get_or-take (4096 * page + 4096 - 4096 * page) (drop (4096 * page) xs) k 0 (omega arith) ∙ get_or-drop (4096 * page) xs k 0
+use Rattle.paged_memory.proofs.PageLemmas.{byte_of_page, length-page, length_marked, other_byte}
+use Rattle.paged_memory.proofs.UntouchedLemmas.{flag_inside, untouched_by_keep, untouched_by_settle, untouched_by_touch, untouched_by_write}
 
 -- ---- the bytes at the last settle
 
@@ -129,29 +109,13 @@ pub settled_by_write : (b c o new : List ℕ) (w v : List Bool) (p : List ℕ) (
     settled_bytes c o v p ≡ settled_bytes b o v p
 settled_by_write b c o new w v p at n long fits whole is flags =
     same_settled b c o o v v p p (ap length is ∙ length_overwritten b new at n fits long)
-    (λ i inside. pick i (is_written v (i / 4096)) (untouched i))
+    (λ i inside. pick i (is_written v (i / 4096)) (other_byte b c new w v at n i long fits (omega arith) is flags))
   where
     pick : (i : ℕ) (f : Bool) → (f ≡ false → get_or c i 0 ≡ get_or b i 0) →
         (if f then original_byte o (get_or p (i / 4096) 0) i else get_or c i 0)
         ≡ (if f then original_byte o (get_or p (i / 4096) 0) i else get_or b i 0)
     pick i true same = refl
     pick i false same = same refl
-
-    some : (i : ℕ) → 1 ≤ n → is_written v (i / 4096) ≡ false → get_or (take at b ++ (new ++ drop (at + n) b)) i 0 ≡ get_or b i 0
-    some i least none =
-        let clear : is_written (flagged w (at / 4096) ((at + n - 1) / 4096 + 1)) (i / 4096) ≡ false =
-        ap (λ (x : List Bool). get_or x (i / 4096) true) (sym (flags ∙ marked_some w at n least)) ∙ none in
-        let parts = no_new_flag w (at / 4096) ((at + n - 1) / 4096 + 1) (i / 4096) (omega arith) (omega arith) clear in
-        elim parts.0 [
-          | inl before ↦ put_before b new at n i (omega arith) (omega arith)
-          | inr after ↦ put_after b new at n i long (omega arith) (omega arith)
-        ]
-
-    untouched : (i : ℕ) → is_written v (i / 4096) ≡ false → get_or c i 0 ≡ get_or b i 0
-    untouched i none = ap (λ (x : List ℕ). get_or x i 0) is ∙ elim (cases_eq n 0) [
-      | inl empty ↦ ap (λ (x : List ℕ). get_or x i 0) (nothing_written b new at n long empty)
-      | inr least ↦ some i (omega arith) none
-    ]
 
 -- with no page written each is its own original
 pub settled_afresh : (b o : List ℕ) (w : List Bool) (p : List ℕ) (n : ℕ) → length b ≡ 4096 * n → w ≡ replicate n false →
@@ -207,15 +171,9 @@ page_unkept b o w p page within flag =
 
 -- ---- the rules
 
--- a page without flag is one that the memory has
-flag_inside : (w : List Bool) (page : ℕ) → is_written w page ≡ false → page < length w
-flag_inside [] page none = absurd (true≢false none)
-flag_inside (f ∷ w) zero none = omega arith
-flag_inside (f ∷ w) (suc page) none = let below : page < length w = flag_inside w page none in omega arith
-
-pub paged : (b o : List ℕ) (w : List Bool) (p d : List ℕ) (space capacity copies : ℕ) → IsStored b o w p d space capacity copies →
+pub paged : (b o : List ℕ) (w t : List Bool) (p d : List ℕ) (space capacity copies : ℕ) → IsStored b o w t p d space capacity copies →
     IsPaged (seen b o w p copies)
-paged b o w p d space capacity copies is = record {
+paged b o w t p d space capacity copies is = record {
   whole = is.whole;
   least = is.least;
   most = is.most;
@@ -229,9 +187,9 @@ paged b o w p d space capacity copies is = record {
 }
 
 -- the original of a written page has its bytes among the originals
-pub original_fits : (b o : List ℕ) (w : List Bool) (p d : List ℕ) (space capacity copies page : ℕ) →
-    IsStored b o w p d space capacity copies → page < length w → is_written w page ≡ true → 4096 * get_or p page 0 + 4096 ≤ length o
-original_fits b o w p d space capacity copies page is here flag = omega (arith, is.kept, is.placed page here flag)
+pub original_fits : (b o : List ℕ) (w t : List Bool) (p d : List ℕ) (space capacity copies page : ℕ) →
+    IsStored b o w t p d space capacity copies → page < length w → is_written w page ≡ true → 4096 * get_or p page 0 + 4096 ≤ length o
+original_fits b o w t p d space capacity copies page is here flag = omega (arith, is.kept, is.placed page here flag)
 
 -- one page more is written
 pub one_page_more : (w : List Bool) (page : ℕ) → is_written w page ≡ false → written_pages (set w page true) ≡ written_pages w + 1
@@ -251,11 +209,11 @@ still_written w page here q flag = elim (cases_eq q page) [
   | inr apart ↦ get_or-set_other w page q true true apart ∙ flag
 ]
 
-stored_with : (b o x : List ℕ) (w : List Bool) (p d : List ℕ) (space capacity space_now capacity_now copies more page : ℕ) →
+stored_with : (b o x : List ℕ) (w t : List Bool) (p d : List ℕ) (space capacity space_now capacity_now copies more page : ℕ) →
     page < length w → is_written w page ≡ false → length x ≡ length o + 4096 → space ≤ space_now → capacity_now ≡ capacity →
-    more < 2 ^ 64 → IsStored b o w p d space capacity copies →
-    IsStored b x (set w page true) (set p page (length d)) (d ++ page ∷ []) space_now capacity_now more
-stored_with b o x w p d space capacity space_now capacity_now copies more page here none long wide roomy small is =
+    more < 2 ^ 64 → IsStored b o w t p d space capacity copies →
+    IsStored b x (set w page true) (set t page true) (set p page (length d)) (d ++ page ∷ []) space_now capacity_now more
+stored_with b o x w t p d space capacity space_now capacity_now copies more page here none long wide roomy small is =
     let same : length (set w page true) ≡ length w = length-set w page true in
     let whole : length b ≡ 4096 * length w = is.whole in
     let least : 1 ≤ length w = is.least in
@@ -263,6 +221,7 @@ stored_with b o x w p d space capacity space_now capacity_now copies more page h
     let room : length w ≤ capacity = is.room in
     let region : 4096 * length w ≤ space = is.region in
     let numbered : length p ≡ length w = is.numbered in
+    let flagged : length t ≡ length w = is.flagged in
     let pushed : length (d ++ page ∷ []) ≡ length d + 1 = length_push d page in
     let Below : ℕ → Type 0 = λ n. All (λ q. q < n) (d ++ page ∷ []) in
     record {
@@ -293,33 +252,62 @@ stored_with b o x w p d space capacity space_now capacity_now copies more page h
       region = omega arith;
       room = omega arith;
       small = small;
+      flagged = length-set t page true ∙ flagged ∙ sym same;
+      untouched = untouched_by_keep b w t page (omega arith) is.untouched;
     }
 
-pub stored_by_keep : (b o x : List ℕ) (w : List Bool) (p q d e : List ℕ) (space capacity space_now capacity_now copies more page : ℕ) →
+pub stored_by_keep : (b o x : List ℕ) (w t : List Bool) (p q d e : List ℕ) (space capacity space_now capacity_now copies more page : ℕ) →
     page < length w → is_written w page ≡ false → x ≡ o ++ page_of b page → q ≡ set p page (length d) → e ≡ d ++ page ∷ [] →
-    space ≤ space_now → capacity_now ≡ capacity → more < 2 ^ 64 → IsStored b o w p d space capacity copies →
-    IsStored b x (set w page true) q e space_now capacity_now more
-stored_by_keep b o x w p q d e space capacity space_now capacity_now copies more page here none appended put pushed wide roomy small is =
-    let Listed : List ℕ → Type 0 = λ xs. IsStored b x (set w page true) (set p page (length d)) xs space_now capacity_now more in
-    let Placed : List ℕ → Type 0 = λ xs. IsStored b x (set w page true) xs e space_now capacity_now more in
+    space ≤ space_now → capacity_now ≡ capacity → more < 2 ^ 64 → IsStored b o w t p d space capacity copies →
+    IsStored b x (set w page true) (set t page true) q e space_now capacity_now more
+stored_by_keep b o x w t p q d e space capacity space_now capacity_now copies more page here none appended put pushed wide roomy small is =
+    let Listed : List ℕ → Type 0 = λ xs. IsStored b x (set w page true) (set t page true) (set p page (length d)) xs space_now capacity_now
+    more in
+    let Placed : List ℕ → Type 0 = λ xs. IsStored b x (set w page true) (set t page true) xs e space_now capacity_now more in
     let long : length x ≡ length o + 4096 =
     ap length appended ∙ length-append o (page_of b page)
     ∙ ap (λ (k : ℕ). length o + k) (length-page b page (omega (arith, is.whole, here))) in
     subst Placed (sym put)
     (subst Listed (sym pushed)
-    (stored_with b o x w p d space capacity space_now capacity_now copies more page here none long wide roomy small is))
+    (stored_with b o x w t p d space capacity space_now capacity_now copies more page here none long wide roomy small is))
 
-pub stored_by_write : (b c o : List ℕ) (w : List Bool) (p d : List ℕ) (space capacity copies : ℕ) → length c ≡ length b →
-    IsStored b o w p d space capacity copies → IsStored c o w p d space capacity copies
-stored_by_write b c o w p d space capacity copies long is =
+pub stored_by_write : (b c o : List ℕ) (w t : List Bool) (p d : List ℕ) (space capacity copies : ℕ) → length c ≡ length b →
+    ((i : ℕ) → is_written w (i / 4096) ≡ false → get_or c i 0 ≡ get_or b i 0) → IsStored b o w t p d space capacity copies → IsStored c o w
+    t p d space capacity copies
+stored_by_write b c o w t p d space capacity copies long same is =
     let whole : length c ≡ 4096 * length w = long ∙ is.whole in
+    let untouched : AreUntouched c w t = untouched_by_write b c w t same is.untouched in
     search rules
 
+-- bytes change, and their pages get the flag that says so, but aren't kept
+pub stored_by_touch : (b c o new : List ℕ) (w t u : List Bool) (p d : List ℕ) (space capacity copies at n : ℕ) → 1 ≤ n → length new ≡ n →
+    at + n ≤ length b → c ≡ take at b ++ (new ++ drop (at + n) b) → u ≡ marked t at n → IsStored b o w t p d space capacity copies →
+    IsStored c o w u p d space capacity copies
+stored_by_touch b c o new w t u p d space capacity copies at n some long fits put flags is =
+    let whole : length b ≡ 4096 * length t = omega (arith, is.whole, is.flagged) in
+    record {
+      whole = ap length put ∙ length_overwritten b new at n fits long ∙ is.whole;
+      least = is.least;
+      most = is.most;
+      kept = is.kept;
+      numbered = is.numbered;
+      placed = is.placed;
+      listed = is.listed;
+      inside = is.inside;
+      only = is.only;
+      count = is.count;
+      region = is.region;
+      room = is.room;
+      small = is.small;
+      flagged = ap length flags ∙ length_marked t at n (omega arith) ∙ is.flagged;
+      untouched = untouched_by_touch b c new w t u at n some long fits (omega arith) put flags is.untouched;
+    }
+
 -- nothing is written yet
-pub stored_afresh : (b o : List ℕ) (w : List Bool) (p d : List ℕ) (n space capacity copies : ℕ) → length b ≡ 4096 * n → 1 ≤ n →
+pub stored_afresh : (b o : List ℕ) (w t : List Bool) (p d : List ℕ) (n space capacity copies : ℕ) → length b ≡ 4096 * n → 1 ≤ n →
     n ≤ most_pages → o ≡ [] → w ≡ replicate n false → length p ≡ n → d ≡ [] → 4096 * n ≤ space → n ≤ capacity → copies < 2 ^ 64 →
-    IsStored b o w p d space capacity copies
-stored_afresh b o w p d n space capacity copies whole least most bare flags numbered empty wide room small =
+    length t ≡ n → AreUntouched b w t → IsStored b o w t p d space capacity copies
+stored_afresh b o w t p d n space capacity copies whole least most bare flags numbered empty wide room small flagged untouched =
     let count : length w ≡ n = ap length flags ∙ length-replicate n false in
     record {
       whole = omega arith;
@@ -337,6 +325,8 @@ stored_afresh b o w p d n space capacity copies whole least most bare flags numb
       region = omega arith;
       room = omega arith;
       small = small;
+      flagged = flagged ∙ sym count;
+      untouched = untouched;
     }
   where
     unmarked : (page : ℕ) → page < n → is_written w page ≡ true → ⊥
@@ -344,9 +334,9 @@ stored_afresh b o w p d n space capacity copies whole least most bare flags numb
         true≢false (sym flag ∙ ap (λ (x : List Bool). get_or x page true) flags ∙ get_or-replicate n page false true inside)
 
 -- not all pages are listed where one isn't written
-one_unlisted : (b o : List ℕ) (w : List Bool) (p d : List ℕ) (space capacity copies page : ℕ) → is_written w page ≡ false →
-    IsStored b o w p d space capacity copies → length d < length w
-one_unlisted b o w p d space capacity copies page none is =
+one_unlisted : (b o : List ℕ) (w t : List Bool) (p d : List ℕ) (space capacity copies page : ℕ) → is_written w page ≡ false →
+    IsStored b o w t p d space capacity copies → length d < length w
+one_unlisted b o w t p d space capacity copies page none is =
     omega (
       arith,
       one_page_more w page none,
@@ -356,20 +346,20 @@ one_unlisted b o w p d space capacity copies page none is =
     )
 
 -- then the list has room for one more, and so have the originals
-pub room_for_one : (b o : List ℕ) (w : List Bool) (p d : List ℕ) (space capacity copies page : ℕ) → is_written w page ≡ false →
-    IsStored b o w p d space capacity copies → length d < capacity
-room_for_one b o w p d space capacity copies page none is =
-    omega (arith, one_unlisted b o w p d space capacity copies page none is, is.room)
+pub room_for_one : (b o : List ℕ) (w t : List Bool) (p d : List ℕ) (space capacity copies page : ℕ) → is_written w page ≡ false →
+    IsStored b o w t p d space capacity copies → length d < capacity
+room_for_one b o w t p d space capacity copies page none is =
+    omega (arith, one_unlisted b o w t p d space capacity copies page none is, is.room)
 
-pub room_for_original : (b o : List ℕ) (w : List Bool) (p d : List ℕ) (space capacity copies page : ℕ) → is_written w page ≡ false →
-    IsStored b o w p d space capacity copies → length o + 4096 ≤ space
-room_for_original b o w p d space capacity copies page none is =
-    omega (arith, one_unlisted b o w p d space capacity copies page none is, is.kept, is.region)
+pub room_for_original : (b o : List ℕ) (w t : List Bool) (p d : List ℕ) (space capacity copies page : ℕ) → is_written w page ≡ false →
+    IsStored b o w t p d space capacity copies → length o + 4096 ≤ space
+room_for_original b o w t p d space capacity copies page none is =
+    omega (arith, one_unlisted b o w t p d space capacity copies page none is, is.kept, is.region)
 
 -- the flags, the list and the originals are cleared
-pub stored_by_settle : (b o x : List ℕ) (w v : List Bool) (p d e : List ℕ) (space capacity space_now capacity_now copies : ℕ) →
+pub stored_by_settle : (b o x : List ℕ) (w v t : List Bool) (p d e : List ℕ) (space capacity space_now capacity_now copies : ℕ) →
     v ≡ replicate (length w) false → e ≡ [] → x ≡ [] → space ≤ space_now → capacity_now ≡ capacity →
-    IsStored b o w p d space capacity copies → IsStored b x v p e space_now capacity_now copies
-stored_by_settle b o x w v p d e space capacity space_now capacity_now copies none empty bare wide roomy is =
-    stored_afresh b x v p e (length w) space_now capacity_now copies is.whole is.least is.most bare none is.numbered empty
-    (omega (arith, is.region)) (omega (arith, is.room)) is.small
+    IsStored b o w t p d space capacity copies → IsStored b x v t p e space_now capacity_now copies
+stored_by_settle b o x w v t p d e space capacity space_now capacity_now copies none empty bare wide roomy is =
+    stored_afresh b x v t p e (length w) space_now capacity_now copies is.whole is.least is.most bare none is.numbered empty
+    (omega (arith, is.region)) (omega (arith, is.room)) is.small is.flagged (untouched_by_settle b w v t none is.flagged is.untouched)

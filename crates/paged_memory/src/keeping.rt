@@ -20,6 +20,7 @@ impl Memory {
         append(&mut self.originals, &self.bytes[start..start + PAGE_BYTES]);
         self.places[page as usize] = self.dirty.len() as u32;
         self.written[page as usize] = true;
+        self.touched[page as usize] = true;
         self.dirty.push_reserved(page);
         self.copies = self.copies.wrapping_add(1);
     }

@@ -1,12 +1,13 @@
 //! Memory in pages.
-ghost use Rattle.std.specs.Prelude.{◌≡◌, ◌+◌, ◌-◌, ◌*◌, ◌%◌, ◌^◌, ◌<◌, ◌≤◌, IfOk, false, length, replicate, take, drop, slice_index};
+ghost use Rattle.std.specs.Prelude.{◌≡◌, ◌+◌, ◌-◌, ◌*◌, ◌%◌, ◌^◌, ◌<◌, ◌≤◌, ◌↔◌, All, IfOk, IsTrue, false, length, replicate, take, drop};
+ghost use Rattle.std.specs.Prelude.{◌/◌, ◌++◌, slice_index, true};
 ghost use Rattle.paged_memory.specs.Bytes.{with_bytes, with_xored};
 ghost use Rattle.paged_memory.specs.Limits.{page_bytes, most_pages};
-ghost use Rattle.paged_memory.specs.Pages.{IsPaged, page_of, is_written, written_pages, with_written, boot_bytes, settled_at};
+ghost use Rattle.paged_memory.specs.Pages.{IsPaged, page_of, is_written, written_pages, marked, with_written, boot_bytes, settled_at};
 
 use crate::keeping::clear_flags;
 use memory_wanted::{MemoryWanted, extend_from_slice, resize, with_capacity};
-use page_lanes::{BLOCK_SIZE, Block, xor_block_at};
+use page_lanes::{BLOCK_SIZE, Block, is_zero, xor_block_at};
 use std::alloc::Global;
 use std::marker::Model;
 
@@ -26,6 +27,8 @@ pub struct Memory {
     pub(crate) places: Vec<u32>,
     /// The numbers of those pages, in the order of their first writes.
     pub(crate) dirty: Vec<u32>,
+    /// Which pages may have a byte that isn't 0: those that the image or a later call put bytes into.
+    pub(crate) touched: Vec<bool>,
     /// How many page copies were made since boot, modulo 2^64.
     pub(crate) copies: u64,
 }
@@ -39,7 +42,7 @@ impl Model for Memory {
 
     ghost view = { λ m. seen m.bytes.items m.originals.items m.written.items m.places.items m.copies };
 
-    ghost invariant = { λ m. IsStored m.bytes.items m.originals.items m.written.items m.places.items m.dirty.items
+    ghost invariant = { λ m. IsStored m.bytes.items m.originals.items m.written.items m.touched.items m.places.items m.dirty.items
         (vec_capacity m.originals) (vec_capacity m.dirty) m.copies };
 }
 
@@ -66,12 +69,14 @@ impl Memory {
         let mut written = with_capacity(alloc, pages as usize)?;
         resize(&mut written, pages as usize, false)?;
         let dirty = with_capacity(alloc, pages as usize)?;
+        let touched = reached(alloc, pages, image.len())?;
         Ok(Memory {
             bytes,
             originals,
             written,
             places,
             dirty,
+            touched,
             copies: 0,
         })
     }
@@ -142,6 +147,7 @@ impl Memory {
         ensures value { self.new ≡ settled_at (with_xored self.old.bytes at block.now) (length self.old.written) self.old.copies }
         ensures size { length self.new.bytes ≡ length self.old.bytes }
     {
+        touch(&mut self.touched, at);
         // There is no original to keep.
         xor_at(&mut self.bytes, at, block);
     }
@@ -160,6 +166,15 @@ impl Memory {
         ensures { result.now ≡ page_of self.now.bytes page }
     {
         page_at(self.bytes.as_slice(), page)
+    }
+
+    /// Whether all bytes of a page are 0. It doesn't look at those of a page that neither the image nor a later call put bytes into. The
+    /// memory has it, as the caller knows.
+    pub fn is_zero(&self, page: u32) -> bool
+        requires { page_bytes * page + page_bytes ≤ length self.now.bytes }
+        ensures { IsTrue result ↔ All (λ b. b ≡ 0) (page_of self.now.bytes page) }
+    {
+        !self.touched[page as usize] || is_zero(self.page(page))
     }
 
     /// Whether a page was written since the last settle, or since boot, also where its bytes are the same as then. The memory has
@@ -205,6 +220,18 @@ impl Memory {
     }
 }
 
+/// A flag for each of so many pages: those have it set that an image of so many bytes lies in.
+fn reached(alloc: Global, pages: u32, size: usize) -> Result<Vec<bool>, MemoryWanted>
+    requires { size ≤ page_bytes * pages }
+    ensures { let count = (size + page_bytes - 1) / page_bytes in
+        IfOk result (λ flags. flags.items ≡ replicate count true ++ replicate (pages - count) false) }
+{
+    let mut flags = with_capacity(alloc, pages as usize)?;
+    resize(&mut flags, size.div_ceil(PAGE_BYTES), true)?;
+    resize(&mut flags, pages as usize, false)?;
+    Ok(flags)
+}
+
 /// Puts the whole of `from` in the place of the bytes from a place on.
 fn put(bytes: &mut Vec<u8>, at: usize, from: &[u8])
     requires { at + length from.now ≤ length bytes.old.items }
@@ -212,6 +239,16 @@ fn put(bytes: &mut Vec<u8>, at: usize, from: &[u8])
     ensures size { length bytes.new.items ≡ length bytes.old.items }
 {
     bytes[at..at + from.len()].copy_from_slice(from);
+}
+
+/// Sets the flags of the pages that the 64 bytes from a place on lie in.
+fn touch(flags: &mut Vec<bool>, at: usize)
+    requires most { length flags.old.items ≤ most_pages }
+    requires within { at + 64 ≤ page_bytes * length flags.old.items }
+    ensures { flags.new.items ≡ marked flags.old.items at 64 }
+{
+    flags[at / PAGE_BYTES] = true;
+    flags[(at + BLOCK_SIZE - 1) / PAGE_BYTES] = true;
 }
 
 /// XORs a block into the bytes from a place on.

@@ -7,7 +7,7 @@ returns-clause-same c =
     let s = c.self.inside in
     let P : Paged → Type 0 = λ m. IsPaged m in
     let is = subst P c.self.view_is
-    (paged s.bytes.items s.originals.items s.written.items s.places.items s.dirty.items _ _ s.copies c.self.invariant) in
+    (paged s.bytes.items s.originals.items s.written.items s.touched.items s.places.items s.dirty.items _ _ s.copies c.self.invariant) in
     let here : c.args.page < length s.written.items =
     omega (arith, ap (λ (p : Paged). length p.bytes) c.self.view_is, c.requires, c.self.invariant.whole) in
     λ none. is.kept.same c.args.page

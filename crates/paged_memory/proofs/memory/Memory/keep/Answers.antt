@@ -13,7 +13,8 @@ returns-then-count-gt0 c =
       value = c.keep_pages.ensures
           ∙ ap (with_flags c.args.self.now) (sym (marked_some c.args.self.now.written c.args.at c.args.count c.if-count-gt0.true));
       rules = subst P c.self.view_is
-          (paged s.bytes.items s.originals.items s.written.items s.places.items s.dirty.items _ _ s.copies c.self.invariant);
+          (paged s.bytes.items s.originals.items s.written.items s.touched.items s.places.items s.dirty.items _ _ s.copies
+          c.self.invariant);
     }
 
 pub returns-else-count-gt0 : goal.returns-else-count-gt0
@@ -22,7 +23,7 @@ returns-else-count-gt0 c =
     let m = c.args.self.now in
     let P : Paged → Type 0 = λ m. IsPaged m in
     let rules = subst P c.self.view_is
-    (paged s.bytes.items s.originals.items s.written.items s.places.items s.dirty.items _ _ s.copies c.self.invariant) in
+    (paged s.bytes.items s.originals.items s.written.items s.touched.items s.places.items s.dirty.items _ _ s.copies c.self.invariant) in
     let count : s.copies ≡ m.copies = ap (λ (p : Paged). p.copies) c.self.view_is in
     let small : m.copies < 2 ^ 64 = omega (arith, c.self.invariant.small) in
     let within : c.args.at ≤ 4096 * length m.written = omega (arith, c.requires, rules.whole) in

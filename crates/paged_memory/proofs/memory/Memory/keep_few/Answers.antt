@@ -14,7 +14,8 @@ returns-then-not-first_written-index c =
       value = c.keep_pages.ensures
           ∙ ap (with_flags c.args.self.now) (sym (marked_some c.args.self.now.written c.args.at c.args.count c.requires.some));
       rules = subst P c.self.view_is
-          (paged s.bytes.items s.originals.items s.written.items s.places.items s.dirty.items _ _ s.copies c.self.invariant);
+          (paged s.bytes.items s.originals.items s.written.items s.touched.items s.places.items s.dirty.items _ _ s.copies
+          c.self.invariant);
     }
 
 and_first : (a b : Bool) → (a && b) ≡ true → a ≡ true
@@ -32,7 +33,7 @@ returns-else-not-first_written-index c =
     let w = s.written.items in
     let P : Paged → Type 0 = λ m. IsPaged m in
     let rules = subst P c.self.view_is
-    (paged s.bytes.items s.originals.items w s.places.items s.dirty.items _ _ s.copies c.self.invariant) in
+    (paged s.bytes.items s.originals.items w s.touched.items s.places.items s.dirty.items _ _ s.copies c.self.invariant) in
     let count : s.copies ≡ m.copies = ap (λ (p : Paged). p.copies) c.self.view_is in
     let small : m.copies < 2 ^ 64 = omega (arith, c.self.invariant.small) in
     let within : c.args.at + c.args.count ≤ 4096 * length m.written = omega (arith, c.requires.within, rules.whole) in

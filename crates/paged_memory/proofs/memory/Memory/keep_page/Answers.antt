@@ -12,7 +12,8 @@ append-requires c =
     let here : c.args.page < length s.written.items = omega (arith, ap length flags, c.requires.inside) in
     omega (
       arith,
-      room_for_original s.bytes.items s.originals.items s.written.items s.places.items s.dirty.items _ _ s.copies c.args.page none
+      room_for_original s.bytes.items s.originals.items s.written.items s.touched.items s.places.items s.dirty.items _ _ s.copies
+          c.args.page none
           c.self.invariant,
       s.originals.ok,
     )
@@ -25,7 +26,8 @@ push_reserved-requires c =
     ap (λ (x : List Bool). is_written x c.args.page) flags ∙ c.requires.unwritten in
     omega (
       arith,
-      room_for_one s.bytes.items s.originals.items s.written.items s.places.items s.dirty.items _ _ s.copies c.args.page none
+      room_for_one s.bytes.items s.originals.items s.written.items s.touched.items s.places.items s.dirty.items _ _ s.copies c.args.page
+          none
           c.self.invariant,
       s.dirty.ok,
     )
@@ -39,7 +41,7 @@ invariant_of-self c =
     let here : c.args.page < length s.written.items = omega (arith, ap length flags, c.requires.inside) in
     let more : ℕ = (s.copies + 1) % 2 ^ 64 in
     let place : c.len.result ≡ length s.dirty.items = omega (arith, c.len.ensures, s.dirty.ok) in
-    stored_by_keep s.bytes.items s.originals.items c.append.new.into.items s.written.items s.places.items _ s.dirty.items
+    stored_by_keep s.bytes.items s.originals.items c.append.new.into.items s.written.items s.touched.items s.places.items _ s.dirty.items
     c.push_reserved.new.self.items _ _ _ _ s.copies more c.args.page here none
     (c.append.ensures.items ∙ ap (λ (x : List ℕ). s.originals.items ++ page_of x c.args.page) c.deref.ensures.value)
     (ap (λ (k : ℕ). set s.places.items c.args.page k) place)
@@ -54,7 +56,7 @@ returns c =
     ap (λ (x : List Bool). is_written x c.args.page) flags ∙ c.requires.unwritten in
     let here : c.args.page < length s.written.items = omega (arith, ap length flags, c.requires.inside) in
     let place : c.len.result ≡ length s.dirty.items = omega (arith, c.len.ensures, s.dirty.ok) in
-    seen_by_keep c.args.self.now s.bytes.items s.originals.items c.append.new.into.items s.written.items s.places.items _ s.dirty.items _ _
-    s.copies c.args.page c.self.invariant c.self.view_is here none
+    seen_by_keep c.args.self.now s.bytes.items s.originals.items c.append.new.into.items s.written.items s.touched.items s.places.items _
+    s.dirty.items _ _ s.copies c.args.page c.self.invariant c.self.view_is here none
     (c.append.ensures.items ∙ ap (λ (x : List ℕ). s.originals.items ++ page_of x c.args.page) c.deref.ensures.value)
     (ap (λ (k : ℕ). set s.places.items c.args.page k) place)

@@ -15,8 +15,8 @@ returns c =
     let Next : Paged → Type 0 = λ p. IsNext p c.args.from c.least_from.result in
     let next : Next c.args.self.now =
     subst Next c.self.view_is
-    (next_is s.bytes.items s.originals.items s.written.items s.places.items s.dirty.items _ _ s.copies c.args.from c.pages.result
-    c.least_from.result end c.self.invariant least) in
+    (next_is s.bytes.items s.originals.items s.written.items s.touched.items s.places.items s.dirty.items _ _ s.copies c.args.from
+    c.pages.result c.least_from.result end c.self.invariant least) in
     record {
       first = least.first;
       last = omega (arith, least.last, c.pages.ensures.bytes);

@@ -16,7 +16,7 @@ page_at-requires c =
     omega (
       arith,
       place,
-      original_fits s.bytes.items s.originals.items w p s.dirty.items _ _ s.copies c.args.page c.self.invariant here flag,
+      original_fits s.bytes.items s.originals.items w s.touched.items p s.dirty.items _ _ s.copies c.args.page c.self.invariant here flag,
     )
 
 pub returns-then-index : goal.returns-then-index
@@ -31,7 +31,8 @@ returns-then-index c =
     let place =
     get_or_read p c.args.page c.index-then-index.result.now (omega (arith, here, c.self.invariant.numbered)) c.index-then-index.ensures
     0 in
-    let placed = original_fits s.bytes.items s.originals.items w p s.dirty.items _ _ s.copies c.args.page c.self.invariant here flag in
+    let placed = original_fits s.bytes.items s.originals.items w s.touched.items p s.dirty.items _ _ s.copies c.args.page c.self.invariant
+    here flag in
     record {
       value = c.page_at.ensures
           ∙ ap (λ (x : List ℕ). page_of x c.index-then-index.result.now) c.as_slice.ensures.value

@@ -7,4 +7,4 @@ returns-clause-rules c =
     let s = c.self.inside in
     let P : Paged → Type 0 = λ m. IsPaged m in
     subst P c.self.view_is
-    (paged s.bytes.items s.originals.items s.written.items s.places.items s.dirty.items _ _ s.copies c.self.invariant)
+    (paged s.bytes.items s.originals.items s.written.items s.touched.items s.places.items s.dirty.items _ _ s.copies c.self.invariant)

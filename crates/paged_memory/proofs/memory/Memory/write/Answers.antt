@@ -6,8 +6,8 @@ pub invariant_of-self : goal.invariant_of-self
 invariant_of-self c =
     let s = c.self.inside in
     let after =
-    after_write c.args.self.now s.bytes.items c.put.new.bytes.items s.originals.items c.args.from.now s.written.items s.places.items
-    s.dirty.items _ _ s.copies c.args.at (length c.args.from.now) refl c.requires c.keep.ensures.rules c.self.invariant
+    after_write c.args.self.now s.bytes.items c.put.new.bytes.items s.originals.items c.args.from.now s.written.items s.touched.items
+    s.places.items s.dirty.items _ _ s.copies c.args.at (length c.args.from.now) refl c.requires c.keep.ensures.rules c.self.invariant
     (c.self.view_is ∙ c.keep.ensures.value) c.put.ensures.value in
     after.stored
 
@@ -16,8 +16,8 @@ returns c =
     let s = c.self.inside in
     let m = c.args.self.now in
     let after =
-    after_write m s.bytes.items c.put.new.bytes.items s.originals.items c.args.from.now s.written.items s.places.items s.dirty.items _ _
-    s.copies c.args.at (length c.args.from.now) refl c.requires c.keep.ensures.rules c.self.invariant
+    after_write m s.bytes.items c.put.new.bytes.items s.originals.items c.args.from.now s.written.items s.touched.items s.places.items
+    s.dirty.items _ _ s.copies c.args.at (length c.args.from.now) refl c.requires c.keep.ensures.rules c.self.invariant
     (c.self.view_is ∙ c.keep.ensures.value) c.put.ensures.value in
     record {
       value = after.value;

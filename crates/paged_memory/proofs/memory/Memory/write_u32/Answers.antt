@@ -6,8 +6,8 @@ pub invariant_of-self : goal.invariant_of-self
 invariant_of-self c =
     let s = c.self.inside in
     let after =
-    after_number c.args.self.now s.bytes.items c.put_u32.new.bytes.items s.originals.items s.written.items s.places.items s.dirty.items
-    _ _ s.copies c.args.at 4 c.args.value refl c.requires c.keep_few.ensures.rules c.self.invariant
+    after_number c.args.self.now s.bytes.items c.put_u32.new.bytes.items s.originals.items s.written.items s.touched.items s.places.items
+    s.dirty.items _ _ s.copies c.args.at 4 c.args.value refl c.requires c.keep_few.ensures.rules c.self.invariant
     (c.self.view_is ∙ c.keep_few.ensures.value) c.put_u32.ensures.value in
     after.stored
 
@@ -15,8 +15,8 @@ pub returns : goal.returns
 returns c =
     let s = c.self.inside in
     let after =
-    after_number c.args.self.now s.bytes.items c.put_u32.new.bytes.items s.originals.items s.written.items s.places.items s.dirty.items
-    _ _ s.copies c.args.at 4 c.args.value refl c.requires c.keep_few.ensures.rules c.self.invariant
+    after_number c.args.self.now s.bytes.items c.put_u32.new.bytes.items s.originals.items s.written.items s.touched.items s.places.items
+    s.dirty.items _ _ s.copies c.args.at 4 c.args.value refl c.requires c.keep_few.ensures.rules c.self.invariant
     (c.self.view_is ∙ c.keep_few.ensures.value) c.put_u32.ensures.value in
     record {
       value = after.value;
