@@ -1,5 +1,5 @@
 //! What a cut records of memory.
-ghost use Rattle.std.specs.Prelude.{◌≡◌, ◌+◌, ◌*◌, ◌<◌, ◌≤◌, false, length, [], ◌∷◌, ◌++◌, map, vec_capacity, OnOk};
+ghost use Rattle.std.specs.Prelude.{◌≡◌, ◌+◌, ◌*◌, ◌<◌, ◌≤◌, false, length, [], ◌∷◌, ◌++◌, map, replicate, vec_capacity, OnOk};
 ghost use Rattle.guest_rules.specs.Limits.{page_bytes};
 ghost use Rattle.epoch_snapshot.specs.Blocks.{IsPageIn, set_blocks, xored, block_in, changed_mask};
 ghost use Rattle.epoch_snapshot.specs.Cuts.{changed_pages, changed_blocks};
@@ -137,6 +137,22 @@ fn next_of_written(machine: &Machine, from: u32, pages: u32) -> u32
     }
 }
 
+/// The first page from `from` on that isn't all zero, or `pages` where each of the first `pages` is.
+fn next_nonzero(machine: &Machine, from: u32, pages: u32) -> u32
+    requires ordered { from ≤ pages }
+    requires size { page_bytes * pages ≤ length machine.now.guest.ram }
+    ensures first { from ≤ result }
+    ensures last { result ≤ pages }
+    ensures same { let zero = replicate (length machine.now.guest.ram) 0 in
+        changed_pages zero machine.now.guest.ram result ≡ changed_pages zero machine.now.guest.ram from }
+{
+    let mut page = from;
+    while page < pages && machine.is_zero(page) {
+        page += 1;
+    }
+    page
+}
+
 /// A page from `from` on such that none before it changes, or `pages` where none of the first `pages` does.
 fn next_page(machine: &Machine, over: Over, from: u32, pages: u32) -> u32
     requires ordered { from ≤ pages }
@@ -148,7 +164,7 @@ fn next_page(machine: &Machine, over: Over, from: u32, pages: u32) -> u32
 {
     match over {
         Over::Settled => next_of_written(machine, from, pages),
-        Over::Zero => from,
+        Over::Zero => next_nonzero(machine, from, pages),
     }
 }
 

@@ -55,6 +55,15 @@ impl Machine {
         self.ram.memory.page(page)
     }
 
+    /// Whether all bytes of a page are 0. It doesn't look at those of a page that nothing was put into since boot. The guest has the
+    /// page, as the caller knows.
+    pub fn is_zero(&self, page: u32) -> bool
+        requires { page_bytes * page + page_bytes ≤ length self.now.guest.ram }
+        ensures { IsTrue result ↔ All (λ b. b ≡ 0) (page_of self.now.guest.ram page) }
+    {
+        self.ram.memory.is_zero(page)
+    }
+
     /// Whether a page was written since the last settle, or since boot, also where its bytes are the same as then. One that wasn't
     /// has the bytes that it had then. The guest has the page, as the caller knows.
     pub fn dirty(&self, page: u32) -> bool
