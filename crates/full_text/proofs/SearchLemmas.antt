@@ -2,7 +2,7 @@
 use Rattle.std.proofs.Common.{◌≡◌, ℕ, zero, suc, ◌+◌, ◌-◌, ◌*◌, ◌/◌, ◌^◌, ◌<◌, ◌≤◌, ◌==◌, ◌++◌, ◌∷◌, [], not, Bool, true, false, cond, List, Option, None}
 use Rattle.std.proofs.Common.{length, take, refl, sym, ap, ◌∙◌, arith, subst, length-append, All, ◌⊎◌, inl, inr}
 use Rattle.std.proofs.lemmas.Bool.{cases_lt}
-use Rattle.std.proofs.lemmas.List.{drop_all, take_all, FromFn.filter_of_map_range_with_len_more}
+use Rattle.std.proofs.lemmas.List.{append-nil, drop_all, take_all, FromFn.filter_of_map_range_with_len_more}
 use Rattle.std.proofs.lemmas.List.Elements.{All-append, All-cons, All-head, All-nil, All-tail}
 use Rattle.std.proofs.lemmas.List.Sums.{sum_by-cons}
 use Rattle.std.proofs.lemmas.Nat.{ones-le}
@@ -19,7 +19,7 @@ use Rattle.full_text.specs.Full.{AreIn, IsMost, IsSameIn, Searching, SearchFits,
 use Rattle.full_text.specs.UsedPages.{used_mask, used_page, used_pages}
 use Rattle.full_text.proofs.FullLemmas.{four-bytes, full-size}
 use Rattle.full_text.proofs.RecordLemmas.{OnesAreNamed, OwnAreRecorded}
-use Rattle.full_text.proofs.ZeroBlocks.{mask-whole}
+use Rattle.full_text.proofs.ZeroBlocks.{mask-whole, zero-mask}
 
 unless : (b : Bool) (ps : List PageChange) → cond (not b) ps [] ≡ cond b [] ps
 unless true ps = refl
@@ -36,6 +36,10 @@ used-next f n mask e =
     used-more f n
     ∙ ap (λ k. used_pages f n ++ cond (not (k == 0)) (record { page = n; mask = k } ∷ []) []) (sym e)
     ∙ ap (λ ps. used_pages f n ++ ps) (unless (mask == 0) (record { page = n; mask = mask } ∷ []))
+
+-- one that is all zero isn't
+pub used-skip : (f : ℕ → List ℕ) (n : ℕ) → All (λ (b : ℕ). b ≡ 0) (f n) → used_pages f (n + 1) ≡ used_pages f n
+used-skip f n all = used-next f n 0 (zero-mask (f n) all) ∙ append-nil (used_pages f n)
 
 pub used-none : (f : ℕ → List ℕ) → used_pages f 0 ≡ []
 unfolding used_pages

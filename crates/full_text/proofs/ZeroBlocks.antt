@@ -1,10 +1,10 @@
 -- A block of memory differs from zeros exactly where it isn't all zero, and a mask takes the flag of one more block above those that it has.
 use Rattle.std.proofs.Common.{◌≡◌, ℕ, zero, suc, ◌+◌, ◌-◌, ◌*◌, ◌%◌, ◌^◌, ◌<◌, ◌≤◌, ◌==◌, ◌||◌, not, Bool, true, false, cond, List, [], ◌∷◌, ◌++◌, length, map}
-use Rattle.std.proofs.Common.{replicate, take, refl, sym, ap, ◌∙◌, arith, subst, All}
+use Rattle.std.proofs.Common.{replicate, take, drop, refl, sym, ap, ◌∙◌, arith, subst, All}
 use Rattle.std.proofs.Math.Nat.{two-pow-succ}
 use Rattle.std.proofs.lemmas.Bool.{ne_eqb, true≢false}
 use Rattle.std.proofs.lemmas.List.FromFn.{map-range_with_len_more, length-map-range_with_len, get_or-map-range_with_len, fill_by_all}
-use Rattle.std.proofs.lemmas.List.Elements.{All-nil, All-cons, All-head, All-tail}
+use Rattle.std.proofs.lemmas.List.Elements.{All-nil, All-cons, All-head, All-tail, All-take, All-drop}
 use Rattle.std.proofs.lemmas.List.{take-replicate, drop-replicate}
 use Rattle.std.proofs.lemmas.Simd.{mask_l-mod}
 use mir.Val.{bool_byte}
@@ -24,6 +24,18 @@ none-differ (suc n) [] all = refl
 none-differ (suc n) (x ∷ xs) all =
     ap (λ y. not (0 == y) || differ (replicate n 0) xs) (All-head (λ (x : ℕ). x ≡ 0) x xs all)
     ∙ none-differ n xs (All-tail (λ (x : ℕ). x ≡ 0) x xs all)
+
+-- a page that is all zero has no block that differs
+pub zero-mask : (page : List ℕ) → All (λ (x : ℕ). x ≡ 0) page → 0 ≡ used_mask page 64
+zero-mask page all =
+    let flag : ℕ → Bool = λ i. differ (replicate 64 0) (block_in page i) in
+    let none : (i : ℕ) → flag i ≡ false =
+    λ i. none-differ 64 (block_in page i)
+    (All-take (λ (x : ℕ). x ≡ 0) 64 (drop (64 * i) page) (All-drop (λ (x : ℕ). x ≡ 0) (64 * i) page all)) in
+    let flags : used_flags page 64 ≡ map (λ i. false) (range_with_len 0 64) =
+    fill_by_all (λ i. false) (used_flags page 64) 64 false (length-map-range_with_len flag 0 64)
+    (λ k below. get_or-map-range_with_len flag 0 64 k k false below (omega arith) ∙ none k) in
+    sym (ap mask_l flags)
 
 all-zero : (n : ℕ) (b : List ℕ) → length b ≡ n → differ (replicate n 0) b ≡ false → All (λ (x : ℕ). x ≡ 0) b
 all-zero n [] long same = All-nil (λ (x : ℕ). x ≡ 0)

@@ -1,5 +1,5 @@
 //! Which pages of a machine weren't all zero at its last settle.
-ghost use Rattle.std.specs.Prelude.{◌≡◌, ◌+◌, ◌*◌, ◌^◌, ◌≤◌, ◌<◌, ◌++◌, ◌∷◌, [], ◌==◌, length, if◌then◌else◌, vec_capacity};
+ghost use Rattle.std.specs.Prelude.{◌≡◌, ◌+◌, ◌*◌, ◌^◌, ◌≤◌, ◌<◌, ◌++◌, ◌∷◌, [], ◌==◌, true, length, if◌then◌else◌, vec_capacity, All};
 ghost use Rattle.guest_rules.specs.Limits.{page_bytes};
 ghost use Rattle.full_text.specs.Full.{page_at};
 ghost use Rattle.full_text.specs.UsedPages.{used_mask, used_pages};
@@ -85,6 +85,33 @@ fn add_four(machine: &Machine, kept: &KeptPages, page: u32, pages: &mut Vec<Page
     add_page(pages, page + 3, d);
 }
 
+/// Whether a page was all zero, where that is soon known: nothing is kept of it, and it wasn't written since the machine's last settle. One
+/// into which nothing was put since boot isn't looked at.
+fn was_zero(machine: &Machine, kept: &KeptPages, page: u32) -> bool
+    requires { page_bytes * page + page_bytes ≤ length machine.now.guest.ram }
+    ensures { result ≡ true → All (λ b. b ≡ 0) (page_at machine.now.settled kept.now page) }
+{
+    match kept.find(page) {
+        None => !machine.dirty(page) && machine.is_zero(page),
+        Some(_) => false,
+    }
+}
+
+/// A page from `from` on such that each before it was all zero, or `to` where each of the pages up to it was.
+fn next_used(machine: &Machine, kept: &KeptPages, from: u32, to: u32) -> u32
+    requires order { from ≤ to }
+    requires size { page_bytes * to ≤ length machine.now.guest.ram }
+    ensures first { from ≤ result }
+    ensures last { result ≤ to }
+    ensures same { used_pages (page_at machine.now.settled kept.now) result ≡ used_pages (page_at machine.now.settled kept.now) from }
+{
+    let mut page = from;
+    while page < to && was_zero(machine, kept, page) {
+        page += 1;
+    }
+    page
+}
+
 /// Puts those of the pages from `from` up to `to` last that weren't all zero, each with the mask of its blocks that weren't, behind those of the
 /// pages before them. The list has room for all.
 pub(crate) fn find_pages(
@@ -103,10 +130,10 @@ pub(crate) fn find_pages(
     ensures pages { pages.new.items ≡ used_pages (page_at machine.now.settled kept.now) to }
     ensures room { vec_capacity pages.old ≤ vec_capacity pages.new }
 {
-    let mut page = from;
+    let mut page = next_used(machine, kept, from, to);
     while to - page >= 4 {
         add_four(machine, kept, page, pages);
-        page += 4;
+        page = next_used(machine, kept, page + 4, to);
     }
     while page < to {
         add_page(pages, page, page_mask(page_of(machine, kept, page)));
