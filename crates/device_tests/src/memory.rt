@@ -48,6 +48,8 @@ enum Line {
     Is(Reading, u64),
     /// Which of the three pages were written.
     Flags([bool; 3]),
+    /// Which of the three pages are all zero.
+    Zeros([bool; 3]),
     /// Four bytes of memory.
     Read(usize, [u8; 4]),
 }
@@ -94,6 +96,7 @@ fn does(rt: &impl Abort, memory: &mut Memory, line: &Line) -> bool {
         Line::Settle => settle(memory),
         Line::Is(reading, number) => read(rt, memory, reading) == number,
         Line::Flags(flags) => has_flags(memory, flags),
+        Line::Zeros(zeros) => has_zeros(memory, zeros),
         Line::Read(at, bytes) => has_bytes(rt, memory, at, bytes),
     }
 }
@@ -150,6 +153,10 @@ fn settle(memory: &mut Memory) -> bool {
 
 fn has_flags(memory: &Memory, flags: [bool; 3]) -> bool {
     memory.pages() == 3 && [memory.dirty(0), memory.dirty(1), memory.dirty(2)] == flags
+}
+
+fn has_zeros(memory: &Memory, zeros: [bool; 3]) -> bool {
+    memory.pages() == 3 && [memory.is_zero(0), memory.is_zero(1), memory.is_zero(2)] == zeros
 }
 
 fn has_bytes(rt: &impl Abort, memory: &Memory, at: usize, bytes: [u8; 4]) -> bool {
@@ -294,17 +301,59 @@ fn a_page_is_copied_at_its_first_write_after_a_settle(rt: HostRuntime) {
     plays(&rt, rt.alloc(), &[], &COPIES);
 }
 
-/// A memory into which two blocks were taken, the second in two pages.
+static ZEROS: [Line; 17] = [
+    // The image lies in the first page.
+    Line::Zeros([false, true, true]),
+    Line::WriteU8(1, 0),
+    Line::Zeros([true, true, true]),
+    Line::Write(8191, &[0, 6]),
+    Line::Flags([true, true, true]),
+    Line::Zeros([true, true, false]),
+    Line::Settle,
+    Line::Zeros([true, true, false]),
+    Line::WriteU8(8192, 0),
+    Line::WriteU8(12287, 1),
+    Line::Zeros([true, true, false]),
+    Line::Write(12287, &[0]),
+    Line::Zeros([true, true, true]),
+    Line::XorBlock(4032, 1),
+    Line::Zeros([false, true, true]),
+    Line::XorBlock(4032, 1),
+    Line::Zeros([true, true, true]),
+];
+
+#[test]
+fn a_page_is_zero_whatever_it_was_before(rt: HostRuntime) {
+    plays(&rt, rt.alloc(), &[0, 9], &ZEROS);
+}
+
+static FULL_IMAGE: [u8; 4097] = [1; 4097];
+
+static REACHED: [Line; 3] = [
+    Line::Zeros([false, false, true]),
+    Line::WriteU8(4096, 0),
+    Line::Zeros([false, true, true]),
+];
+
+#[test]
+fn the_last_page_that_an_image_reaches_is_not_zero(rt: HostRuntime) {
+    plays(&rt, rt.alloc(), &FULL_IMAGE, &REACHED);
+}
+
+/// A memory into which two blocks were taken, the second in two pages, and then one twice.
 fn taken_in(rt: &impl Abort, alloc: Global) -> Box<Memory> {
     let mut memory = Memory::boot(alloc, 3, &[7, 8, 9]).expect(rt, "memory for three pages");
     memory.xor_settled(0, &[1; BLOCK_BYTES]);
     memory.xor_settled(4064, &[5; BLOCK_BYTES]);
+    memory.xor_settled(8192, &[3; BLOCK_BYTES]);
+    memory.xor_settled(8192, &[3; BLOCK_BYTES]);
     Box::new(alloc, memory)
         .ok()
         .expect(rt, "memory for their box")
 }
 
-static TAKEN_IN: [Line; 8] = [
+static TAKEN_IN: [Line; 9] = [
+    Line::Zeros([false, false, true]),
     Line::Is(Reading::U32(0), 0x0108_0906),
     Line::Is(Reading::U64(4124), 0x0505_0505),
     Line::Flags([false, false, false]),
