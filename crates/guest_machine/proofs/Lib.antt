@@ -3,6 +3,8 @@ pub mod FlagLemmas
 pub mod TimerLemmas
 pub mod QuietLemmas
 pub mod OpLemmas
+pub mod PairLemmas
+pub mod AlongLemmas
 pub mod WalkLemmas
 pub mod PaceLemmas
 pub mod CsrLemmas

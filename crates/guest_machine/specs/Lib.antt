@@ -2,8 +2,10 @@ pub mod Errors
 pub mod KeptWords
 pub mod Leaves
 pub mod Paces
+pub mod OpPlaces
 pub mod OpSteps
 pub mod PageOps
+pub mod Pairs
 pub mod Parts
 pub mod Stretches
 pub mod Walks

@@ -30,11 +30,13 @@ pub(crate) fn ram_place(address: u64) -> usize
     (address - RAM_BASE) as usize
 }
 
-/// Where an aligned access of this width at an address stands in a memory of so many bytes, if it is aligned and all of it does. One
-/// test tells both: the address is divided by the width, and a remainder turned to the highest bits, which makes it far too large.
+/// Where an aligned access of this width at an address stands in a memory of so many bytes, if it is aligned and all of it does. Of a
+/// double one test tells both: the address is divided by the width, and a remainder turned to the highest bits, which makes it far too
+/// large. The others take two, so that fewer numbers than one a width have to be at hand.
 #[inline(always)]
 pub(crate) fn aligned_place(size: usize, address: u64, width: Width) -> Option<usize>
     requires bounded { size ≤ 2 ^ 32 }
+    requires whole { size % 4 ≡ 0 }
     ensures place { IfSome result (λ at. place_of address (width_bytes width) ≡ Place.Ram at) }
     ensures aligned { IfSome result (λ at. (address % width_bytes width == 0) ≡ true) }
     ensures within { IfSome result (λ at. at + width_bytes width ≤ size) }
@@ -51,19 +53,17 @@ pub(crate) fn aligned_place(size: usize, address: u64, width: Width) -> Option<u
             }
         }
         Width::Half => {
-            let turned = address / 2 + address % 2 * (1 << 63);
-            let number = turned.wrapping_sub(RAM_BASE / 2);
-            if number < (size / 2) as u64 {
-                Some(number as usize * 2)
+            let number = address.wrapping_sub(RAM_BASE);
+            if number % 2 == 0 && number < size as u64 {
+                Some(number as usize)
             } else {
                 None
             }
         }
         Width::Word => {
-            let turned = address / 4 + address % 4 * (1 << 62);
-            let number = turned.wrapping_sub(RAM_BASE / 4);
-            if number < (size / 4) as u64 {
-                Some(number as usize * 4)
+            let number = address.wrapping_sub(RAM_BASE);
+            if number % 4 == 0 && number < size as u64 {
+                Some(number as usize)
             } else {
                 None
             }

@@ -21,12 +21,12 @@ mod register;
 mod width;
 
 pub use decoding::decode;
-pub use deeds::{Deed, Parts};
+pub use deeds::{Deed, Operands, Parts, deed_of};
 pub use encoding::encode;
 pub use instruction::Instr;
 pub use kind::Kind;
 pub use operations::{Condition, CsrOp, Division, Multiplication, Operation, WordOperation};
-pub use ops::{Op, deed_at};
+pub use ops::Op;
 pub use planning::plan;
 pub use plans::Plan;
 pub use prepared::{Prepared, plan_prepared, prepare};

@@ -103,7 +103,8 @@ impl Regs {
     /// Gives a register a value. x0 stays 0: it is written again, which takes less than to test for it.
     #[inline]
     pub fn set(&mut self, which: Register, value: u64)
-        ensures { self.new ≡ with_register self.old which value }
+        ensures value { self.new ≡ with_register self.old which value }
+        ensures read { (which ≡ 0 → ⊥) → register self.new which ≡ value }
     {
         self.values[which.number() as usize] = value;
         self.values[0] = 0;

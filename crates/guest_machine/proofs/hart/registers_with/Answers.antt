@@ -12,7 +12,7 @@ pub loop-i-preserved : goal.loop-i-preserved
 loop-i-preserved c =
     let values = c.args.values.now in
     one_given c.loop-i.regs values c.set.new.self c.loop-i.i (omega arith) c.told-values
-    (c.set.ensures ∙ ap (λ (r : ℕ). with_register c.loop-i.regs r (get_or values c.loop-i.i 0)) c.from_low_bits.ensures) c.loop-i.invariant
+    (c.set.ensures.value ∙ ap (λ (r : ℕ). with_register c.loop-i.regs r (get_or values c.loop-i.i 0)) c.from_low_bits.ensures) c.loop-i.invariant
 
 pub returns : goal.returns
 returns c =
