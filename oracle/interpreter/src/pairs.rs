@@ -4,28 +4,43 @@ use crate::hart::{Machine, RAM_BASE};
 use std::collections::HashMap;
 
 /// Runs so many steps, and prints the pairs that stand behind each other in a page and run so, the most frequent first: how many of a
-/// thousand steps begin one, and what they are. Where pairs overlap, as three loads do, each counts.
+/// thousand steps begin one, what they are, and which operand of the second is the register that the first writes. Where pairs overlap,
+/// as three loads do, each counts.
 pub fn print(machine: &mut Machine, steps: u64, most: usize) {
-    let mut counts: HashMap<(&str, &str), u64> = HashMap::new();
-    let mut before: Option<(u64, &str)> = None;
+    let mut counts: HashMap<(&str, &str, &str), u64> = HashMap::new();
+    let mut before: Option<(u64, u32)> = None;
     for _ in 0..steps {
         let at = machine.pc.wrapping_sub(RAM_BASE) as usize;
-        let name = machine.ram.get(at..at + 4).map_or("none", |bytes| {
-            name_of(u32::from_le_bytes(bytes.try_into().expect("4 bytes")))
+        let word = machine.ram.get(at..at + 4).map_or(0, |bytes| {
+            u32::from_le_bytes(bytes.try_into().expect("4 bytes"))
         });
         if let Some((pc, first)) = before {
             let is_next = machine.pc == pc + 4 && machine.pc % 4096 != 0;
             if is_next {
-                *counts.entry((first, name)).or_default() += 1;
+                *counts.entry((name_of(first), name_of(word), read_of(first, word))).or_default() += 1;
             }
         }
-        before = Some((machine.pc, name));
+        before = Some((machine.pc, word));
         machine.run(1);
     }
     let mut rows: Vec<_> = counts.into_iter().collect();
     rows.sort_by_key(|(pair, count)| (std::cmp::Reverse(*count), *pair));
-    for ((first, second), count) in rows.into_iter().take(most) {
-        println!("{:6.1} {first} {second}", count as f64 * 1e3 / steps as f64);
+    for ((first, second, read), count) in rows.into_iter().take(most) {
+        println!("{:6.1} {first} {second} {read}", count as f64 * 1e3 / steps as f64);
+    }
+}
+
+/// Which operand of a word is the register that another word in front of it writes.
+fn read_of(first: u32, second: u32) -> &'static str {
+    let rd = first >> 7 & 31;
+    let writes = !matches!(first & 0x7f, 0x63 | 0x23 | 0x0f | 0x73) && rd != 0;
+    let reads_first = !matches!(second & 0x7f, 0x37 | 0x17 | 0x6f | 0x0f | 0x73) && second >> 15 & 31 == rd;
+    let reads_second = matches!(second & 0x7f, 0x63 | 0x23 | 0x33 | 0x3b) && second >> 20 & 31 == rd;
+    match (writes && reads_first, writes && reads_second) {
+        (true, true) => "both",
+        (true, false) => "first",
+        (false, true) => "second",
+        (false, false) => "-",
     }
 }
 
