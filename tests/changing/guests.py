@@ -149,23 +149,58 @@ class Code:
         return draw.of([WFI, FENCE, ECALL, EBREAK, csr(1, free(), MSCRATCH, reg()), csr(2, free(), MIP, 0), csr(2, free(), MSTATUS, 0)])
 
     def pair(self):
-        """Two words that follow each other with one register, or that look so."""
+        """Two words that follow each other often, or that look so."""
+        draw = self.draw
+        words = self.wide_pair() if draw.chance(0.4) else self.frequent_pair()
+        # Now and then a branch leads to the second one alone.
+        if draw.chance(0.15):
+            words = [branch(draw.of([0, 1, 4, 5]), self.any_register(), self.any_register(), 2)] + words
+        return words
+
+    def wide_pair(self):
+        """A number that one word has no place for, and what is cut from one."""
         draw, rd = self.draw, self.free()
         other = rd if draw.chance(0.85) else self.free()
         small, large = draw.between(-2048, 2048), draw.below(1 << 20)
         kind = draw.below(3)
         if kind == 0:
-            words = [lui(rd, large), immediate(draw.of([0x13, 0x1b]), 0, other, rd, small)]
-        elif kind == 1:
-            words = [auipc(rd, draw.of([0, 0, 1, -1, large])), draw.of([addi(other, rd, small), jump_to(0, rd, 4 * draw.between(2, 40)),
-                                                                       load(2, other, rd, 4 * draw.between(-512, 512))])]
-        else:
-            by = draw.of([32, 32, 48, 56, draw.below(64)])
-            words = [shift(1, rd, self.any_register(), by), shift(draw.of([5, 5, 5, 1]), other, rd, by)]
-        # Now and then a branch leads to the second one alone.
-        if draw.chance(0.15):
-            words = [branch(draw.of([0, 1, 4, 5]), self.any_register(), self.any_register(), 2)] + words
-        return words
+            return [lui(rd, large), immediate(draw.of([0x13, 0x1b]), 0, other, rd, small)]
+        if kind == 1:
+            return [auipc(rd, draw.of([0, 0, 1, -1, large])), draw.of([addi(other, rd, small), jump_to(0, rd, 4 * draw.between(2, 40)),
+                                                                      load(2, other, rd, 4 * draw.between(-512, 512))])]
+        by = draw.of([32, 32, 48, 56, draw.below(64)])
+        return [shift(1, rd, self.any_register(), by), shift(draw.of([5, 5, 5, 1]), other, rd, by)]
+
+    def frequent_pair(self):
+        """One of those that the program makes in one go (src/kind.rt of rv64_core), where the second reads what the first writes, mostly."""
+        draw, rd, to, reg = self.draw, self.free(), self.free(), self.any_register
+        read = rd if draw.chance(0.85) else self.free()
+        small, by, ahead = draw.between(-2048, 2048), draw.below(32), draw.between(-3, 6)
+        address = op(0, rd, DATA, draw.of([0, 0, 0, reg()]))
+        return draw.of([
+            lambda: [self.stored([3], DATA), self.stored([3], DATA)],
+            lambda: [load(3, rd, DATA, self.offset(3)), load(3, to, DATA, self.offset(3))],
+            lambda: [load(2, rd, DATA, self.offset(2)), load(2, to, draw.of([DATA, read]), self.offset(2))],
+            lambda: [load(4, rd, DATA, small), branch(1, reg(), read, ahead)],
+            lambda: [branch(5, reg(), reg(), ahead), branch(1, reg(), reg(), ahead)],
+            lambda: [addi(rd, reg(), small), addi(to, read, 1)],
+            lambda: [addi(rd, reg(), small), op(0, to, reg(), read)],
+            lambda: [addi(rd, reg(), small), branch(6, read, reg(), ahead)],
+            lambda: [immediate(0x13, 7, rd, reg(), small), branch(0, read, reg(), ahead)],
+            lambda: [shift(5, rd, reg(), by), op(0, to, reg(), read)],
+            lambda: [address, load(4, to, read, small)],
+            lambda: [address, load(5, to, read, self.offset(1))],
+            lambda: [op(6, rd, reg(), reg()), op(4, to, reg(), read)],
+            lambda: [op(4, rd, reg(), reg()), shift(1, to, read, by)],
+            lambda: [op(4, rd, reg(), reg()), op(0, to, reg(), read, 0, 0x3b)],
+            lambda: [immediate(0x1b, 0, rd, reg(), small), immediate(0x1b, 0, to, read, small)],
+            lambda: [immediate(0x1b, 0, rd, reg(), small), branch(6, read, reg(), ahead)],
+            lambda: [immediate(0x1b, 1, rd, reg(), by), op(6, to, reg(), read)],
+            lambda: [immediate(0x1b, 5, rd, reg(), by), immediate(0x1b, 1, to, read, by)],
+            lambda: [immediate(0x1b, 5, rd, reg(), by), op(6, to, reg(), read)],
+            lambda: [op(0, rd, reg(), reg(), 0, 0x3b), shift(1, to, read, by)],
+            lambda: [op(0, rd, reg(), reg(), 0, 0x3b), op(0, to, read, reg(), 0, 0x3b)],
+        ])()
 
     def changed(self):
         """Stores into code: anywhere, or near by."""
