@@ -11,16 +11,16 @@ pub fn print(machine: &mut Machine, steps: u64, most: usize) {
     let mut before: Option<(u64, u32)> = None;
     for _ in 0..steps {
         let at = machine.pc.wrapping_sub(RAM_BASE) as usize;
-        let word = machine.ram.get(at..at + 4).map_or(0, |bytes| {
-            u32::from_le_bytes(bytes.try_into().expect("4 bytes"))
+        let here = machine.ram.get(at..at.wrapping_add(4)).map(|bytes| {
+            (machine.pc, u32::from_le_bytes(bytes.try_into().expect("4 bytes")))
         });
-        if let Some((pc, first)) = before {
-            let is_next = machine.pc == pc + 4 && machine.pc % 4096 != 0;
-            if is_next {
-                *counts.entry((name_of(first), name_of(word), read_of(first, word))).or_default() += 1;
+        if let (Some((from, first)), Some((pc, second))) = (before, here) {
+            if pc == from + 4 && pc % 4096 != 0 {
+                let pair = (name_of(first), name_of(second), read_of(first, second));
+                *counts.entry(pair).or_default() += 1;
             }
         }
-        before = Some((machine.pc, word));
+        before = here;
         machine.run(1);
     }
     let mut rows: Vec<_> = counts.into_iter().collect();
