@@ -92,7 +92,22 @@ impl Image {
         ensures ok { IfOk result (λ i. i ≡ empty_image shape) }
         ensures err { OnErr result (result ≡ Err (ImageError.NoMemory wanted)) }
     {
-        let machine = match Machine::boot(alloc, shape, &[]) {
+        Image::empty_with(alloc, shape, None)
+    }
+
+    /// The same, in the memory of a spare machine of that shape, if there is one. It is given up, also where the call is refused.
+    ///
+    /// # Errors
+    /// `NoMemory` where memory is refused.
+    pub fn empty_with(
+        alloc: Global,
+        shape: Shape,
+        spare: Option<Machine>,
+    ) -> Result<Image, ImageError>
+        ensures ok { IfOk result (λ i. i ≡ empty_image shape) }
+        ensures err { OnErr result (result ≡ Err (ImageError.NoMemory wanted)) }
+    {
+        let machine = match Machine::boot_empty(alloc, shape, spare) {
             Ok(machine) => machine,
             Err(error) => return Err(refusal_of(error)),
         };

@@ -1,7 +1,8 @@
 //! A machine: the guest and the frames that it sent.
-ghost use Rattle.std.specs.Prelude.{◌≡◌, ◌-◌, ◌*◌, ◌<◌, ◌≤◌, ◌↔◌, [], ◌++◌, false, length, replicate, IsErr, IfOk, OnOk, OnErr, Err};
+ghost use Rattle.std.specs.Prelude.{◌≡◌, ◌-◌, ◌*◌, ◌<◌, ◌≤◌, ◌↔◌, [], ◌++◌, false, length, replicate, IsErr, IfOk, IfSome, OnOk, OnErr, Err};
 ghost use Rattle.memory_wanted.specs.Wanted.{wanted};
 ghost use Rattle.net_device.specs.Receive.{received};
+ghost use Rattle.paged_memory.specs.Pages.{boot_bytes, settled_at};
 ghost use Rattle.guest_rules.specs.Flags.{KeepsFlags};
 ghost use Rattle.guest_rules.specs.Guest.{boot_guest};
 ghost use Rattle.guest_rules.specs.Limits.{page_bytes, stepping_frames};
@@ -88,6 +89,65 @@ impl Machine {
         ensures err { OnErr result (result ≡ Err (MachineError.NoMemory wanted)) }
     {
         let memory = Memory::boot(alloc, shape.pages, image)?;
+        Machine::with_memory(alloc, shape, memory)
+    }
+
+    /// The guest at boot with an empty image, as [`boot`](Machine::boot) makes it. Where there is a spare machine with as many pages, which
+    /// is given up, its memory is used again: that takes time by the pages that bytes were put into, and not by all.
+    ///
+    /// # Errors
+    /// `NoMemory` where memory is refused. The spare machine is given up then too.
+    #[tactic(auto, unfolding(guest_rules::specs::Guest::boot_guest))]
+    pub fn boot_empty(
+        alloc: Global,
+        shape: Shape,
+        spare: Option<Machine>,
+    ) -> Result<Machine, MachineError>
+        ensures guest { IfOk result (λ machine. machine.guest ≡ boot_guest shape.pages shape.sectors []) }
+        ensures outbox { IfOk result (λ machine. machine.outbox ≡ []) }
+        ensures dirty { IfOk result (λ machine. machine.dirty ≡ []) }
+        ensures settled { IfOk result (λ machine. machine.settled ≡ machine.guest.ram) }
+        ensures written { IfOk result (λ machine. machine.written ≡ replicate shape.pages false) }
+        ensures err { OnErr result (result ≡ Err (MachineError.NoMemory wanted)) }
+    {
+        let memory = match spare.and_then(|machine| machine.cleared(shape.pages)) {
+            Some(memory) => memory,
+            None => Memory::boot(alloc, shape.pages, &[])?,
+        };
+        Machine::with_memory(alloc, shape, memory)
+    }
+
+    /// The memory of a machine that is given up, as at boot with an empty image, if it has so many pages.
+    fn cleared(self, pages: u32) -> Option<Memory>
+        ensures { IfSome result (λ memory. memory ≡ settled_at (boot_bytes pages []) pages 0) }
+    {
+        let Machine {
+            hart: _,
+            ram: Ram { mut memory },
+            devices: _,
+            outbox: _,
+            words: _,
+            pages: _,
+            looks: _,
+        } = self;
+        if memory.pages() != pages {
+            return None;
+        }
+        memory.clear();
+        Some(memory)
+    }
+
+    /// The guest at boot with these bytes in memory, of which no page counts as written.
+    #[tactic(auto, unfolding(guest_rules::specs::Guest::boot_guest))]
+    fn with_memory(alloc: Global, shape: Shape, memory: Memory) -> Result<Machine, MachineError>
+        requires settled { memory.settled ≡ memory.bytes }
+        ensures guest { IfOk result (λ machine. machine.guest ≡ record (boot_guest 1 shape.sectors []) { ram = memory.bytes }) }
+        ensures outbox { IfOk result (λ machine. machine.outbox ≡ []) }
+        ensures dirty { IfOk result (λ machine. machine.dirty ≡ []) }
+        ensures settled { IfOk result (λ machine. machine.settled ≡ memory.bytes) }
+        ensures written { IfOk result (λ machine. machine.written ≡ memory.written) }
+        ensures err { OnErr result (result ≡ Err (MachineError.NoMemory wanted)) }
+    {
         let devices = Devices::boot(alloc, shape.sectors)?;
         let outbox = Outbox::new(alloc)?;
         let words = PreparedWords::boot(alloc)?;

@@ -1,4 +1,5 @@
 pub mod BytesLemmas
+pub mod ClearedLemmas
 pub mod FlagLemmas
 pub mod ListedLemmas
 pub mod PageLemmas

@@ -1,9 +1,10 @@
 //! Memory in pages.
 ghost use Rattle.std.specs.Prelude.{◌≡◌, ◌+◌, ◌-◌, ◌*◌, ◌%◌, ◌^◌, ◌<◌, ◌≤◌, ◌↔◌, All, IfOk, IsTrue, false, length, replicate, take, drop};
-ghost use Rattle.std.specs.Prelude.{◌/◌, ◌++◌, slice_index, true};
+ghost use Rattle.std.specs.Prelude.{◌/◌, ◌++◌, ℕ, [], slice_index, true};
 ghost use Rattle.paged_memory.specs.Bytes.{with_bytes, with_xored};
 ghost use Rattle.paged_memory.specs.Limits.{page_bytes, most_pages};
 ghost use Rattle.paged_memory.specs.Pages.{IsPaged, page_of, is_written, written_pages, marked, with_written, boot_bytes, settled_at};
+ghost use Rattle.paged_memory.specs.Stored.{is_touched};
 
 use crate::keeping::clear_flags;
 use memory_wanted::{MemoryWanted, extend_from_slice, resize, with_capacity};
@@ -218,6 +219,46 @@ impl Memory {
         self.dirty.clear();
         self.originals.clear();
     }
+
+    /// The memory is as at boot with an empty image: each byte is 0, no page counts as written, and no page copy was made. It goes over
+    /// those pages only that the image or a later call put bytes into, and takes no memory.
+    pub fn clear(&mut self)
+        ensures { self.new ≡ settled_at (boot_bytes (length self.old.written) []) (length self.old.written) 0 }
+    {
+        self.settle();
+        clear_pages(&mut self.bytes, &mut self.touched);
+        self.copies = 0;
+    }
+}
+
+/// Puts 0 into each byte of the pages that have a flag, and clears the flags. The others have no other byte.
+fn clear_pages(bytes: &mut Vec<u8>, touched: &mut Vec<bool>)
+    requires whole { length bytes.old.items ≡ page_bytes * length touched.old.items }
+    requires zero { (i : ℕ) → is_touched touched.old.items (i / page_bytes) ≡ false → slice_index bytes.old.items i ≡ 0 }
+    ensures bytes { bytes.new.items ≡ replicate (length bytes.old.items) 0 }
+    ensures touched { touched.new.items ≡ replicate (length touched.old.items) false }
+{
+    for page in 0..touched.len() {
+        if touched[page] {
+            clear_bytes(bytes, PAGE_BYTES * page, PAGE_BYTES);
+            touched[page] = false;
+        }
+    }
+}
+
+/// Puts 0 into so many bytes from a place on.
+fn clear_bytes(bytes: &mut Vec<u8>, at: usize, count: usize)
+    requires { at + count ≤ length bytes.old.items }
+    ensures { bytes.new.items ≡ with_bytes bytes.old.items at (replicate count 0) }
+{
+    clear(&mut bytes[at..at + count]);
+}
+
+/// Puts 0 into each byte.
+fn clear(bytes: &mut [u8])
+    ensures { bytes.new ≡ replicate (length bytes.old) 0 }
+{
+    bytes.fill(0);
 }
 
 /// A flag for each of so many pages: those have it set that an image of so many bytes lies in.

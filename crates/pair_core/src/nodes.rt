@@ -37,8 +37,8 @@ pub struct Nodes {
     /// None where a node is alone.
     image: Option<Image>,
     sealed: Vec<Vec<u8>>,
-    /// The stopped primary's machine, kept until there is a new backup, so that going live gives no memory back, which would take time by its
-    /// size.
+    /// The stopped primary's machine, kept until there is a new backup, whose machine gets its memory. Going live gives no memory back, which
+    /// would take time by its size.
     retired: Option<Machine>,
 }
 
@@ -238,9 +238,9 @@ impl Nodes {
         let encoded = encode(self.alloc, &checkpoint);
         drop(checkpoint);
         let text = encoded?;
-        // The new backup's machine finds room where the stopped one's was.
-        drop(std::mem::replace(&mut self.retired, None));
-        let image = match Image::empty(self.alloc, self.shape) {
+        // The new backup's machine has the memory that the stopped one had.
+        let spare = std::mem::replace(&mut self.retired, None);
+        let image = match Image::empty_with(self.alloc, self.shape, spare) {
             Ok(image) => image,
             Err(ImageError::NoMemory(wanted)) => return Err(wanted),
             Err(_) => unreachable!(),

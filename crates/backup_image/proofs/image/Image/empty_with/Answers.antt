@@ -1,7 +1,7 @@
 -- The machine at boot with no program is an empty image.
 use Rattle.std.{proofs.Common.{[], refl, arith}, specs.Prelude.None}
 use Rattle.backup_image.proofs.ImageLemmas.{some≢none, boot-image}
-use Rattle.backup_image.proofs.image.Image.empty.Goals as goal
+use Rattle.backup_image.proofs.image.Image.empty_with.Goals as goal
 
 pub invariant_of-result : goal.invariant_of-result
 invariant_of-result c =
