@@ -52,21 +52,34 @@ fn a_delta_counts_from_its_commit_on(rt: HostRuntime) {
 }
 
 /// An empty image takes a full checkpoint only, and gives no machine before. The machine that it then gives goes on where the other was.
+static FILLED: [Row; 5] = [
+    Row::Empty(3),
+    Row::Given(Handed::Cut(Cut::Delta(2, 1)), Err(ImageError::NoImage)),
+    Row::Given(Handed::Cut(Cut::Full(2)), Ok(Staged::New)),
+    Row::Commit,
+    Row::Stands((2, 0), 23, (3, 0xab)),
+];
+
 #[test]
 fn an_empty_image_is_filled(rt: HostRuntime) {
-    static ROWS: [Row; 5] = [
-        Row::Empty(3),
-        Row::Given(Handed::Cut(Cut::Delta(2, 1)), Err(ImageError::NoImage)),
-        Row::Given(Handed::Cut(Cut::Full(2)), Ok(Staged::New)),
-        Row::Commit,
-        Row::Stands((2, 0), 23, (3, 0xab)),
-    ];
     plays(
         &rt,
         rt.alloc(),
         (Guest::Disk, 23),
         Start::HandedBack,
-        &ROWS,
+        &FILLED,
+        &End::GoesOn,
+    );
+}
+
+#[test]
+fn an_empty_image_in_spare_memory_is_filled(rt: HostRuntime) {
+    plays(
+        &rt,
+        rt.alloc(),
+        (Guest::Disk, 23),
+        Start::Spare,
+        &FILLED,
         &End::GoesOn,
     );
 }

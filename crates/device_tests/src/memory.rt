@@ -44,6 +44,8 @@ enum Line {
     XorBlock(usize, u8),
     /// From now on nothing counts as written.
     Settle,
+    /// Each byte is 0.
+    Clear,
     /// This reading is this number.
     Is(Reading, u64),
     /// Which of the three pages were written.
@@ -94,6 +96,7 @@ fn does(rt: &impl Abort, memory: &mut Memory, line: &Line) -> bool {
         Line::WriteU64(at, value) => write_u64(rt, memory, at, value),
         Line::XorBlock(at, byte) => xor_block(rt, memory, at, byte),
         Line::Settle => settle(memory),
+        Line::Clear => clear(memory),
         Line::Is(reading, number) => read(rt, memory, reading) == number,
         Line::Flags(flags) => has_flags(memory, flags),
         Line::Zeros(zeros) => has_zeros(memory, zeros),
@@ -148,6 +151,11 @@ fn xor_block(rt: &impl Abort, memory: &mut Memory, at: usize, byte: u8) -> bool 
 
 fn settle(memory: &mut Memory) -> bool {
     memory.settle();
+    true
+}
+
+fn clear(memory: &mut Memory) -> bool {
+    memory.clear();
     true
 }
 
@@ -368,4 +376,24 @@ static TAKEN_IN: [Line; 9] = [
 fn a_block_that_is_taken_in_marks_and_copies_no_page(rt: HostRuntime) {
     let mut memory = taken_in(&rt, rt.alloc());
     play(&rt, &mut memory, &TAKEN_IN);
+}
+
+static CLEARED: [Line; 12] = [
+    Line::WriteU8(4096, 9),
+    Line::Settle,
+    Line::XorBlock(8100, 3),
+    Line::Is(Reading::Copies, 2),
+    Line::Clear,
+    Line::Zeros([true, true, true]),
+    Line::Flags([false, false, false]),
+    Line::Is(Reading::Copies, 0),
+    Line::Is(Reading::Original(0, 0), 0),
+    Line::WriteU8(8191, 1),
+    Line::Zeros([true, false, true]),
+    Line::Is(Reading::Copies, 1),
+];
+
+#[test]
+fn a_memory_that_is_cleared_is_as_at_boot(rt: HostRuntime) {
+    plays(&rt, rt.alloc(), &[7, 8, 9], &CLEARED);
 }

@@ -46,6 +46,8 @@ pub(super) enum Start {
     Empty,
     /// An empty one that was asked for its machine, and was handed back.
     HandedBack,
+    /// An empty one in the memory of a machine that made 23 steps.
+    Spare,
 }
 
 /// What becomes of the image in the end.
@@ -101,6 +103,13 @@ fn empty(rt: &impl Abort, alloc: Global, guest: Guest) -> Box<Image> {
     boxed(rt, alloc, made(rt, Image::empty(alloc, shape(guest))))
 }
 
+/// An empty one in the memory of the guest's machine after 23 steps.
+fn spare(rt: &impl Abort, alloc: Global, guest: Guest) -> Box<Image> {
+    let machine = Box::into_inner(machine_after(rt, alloc, guest, 23));
+    let image = Image::empty_with(alloc, shape(guest), Some(machine));
+    boxed(rt, alloc, made(rt, image))
+}
+
 /// An empty image has no machine, and is handed back.
 fn handed_back(rt: &impl Abort, alloc: Global, image: Box<Image>) -> Box<Image> {
     match Box::into_inner(image).resume() {
@@ -118,6 +127,7 @@ pub(super) fn begun(rt: &impl Abort, alloc: Global, guest: Guest, start: Start) 
         Start::Boot => boot(rt, alloc, guest),
         Start::Empty => empty(rt, alloc, guest),
         Start::HandedBack => handed_back(rt, alloc, empty(rt, alloc, guest)),
+        Start::Spare => spare(rt, alloc, guest),
     }
 }
 
