@@ -26,6 +26,13 @@ PROGRAM, TIMES = sys.argv[1], int(sys.argv[2])
 PAGE, SECTOR = 4096, 512
 FRAMES, LONGEST, BOX = 1024, 1514, 256
 CACHES = 64 << 20
+ROUNDS = 100
+
+
+def processor_time():
+    """The processor time of the programs that were played so far."""
+    usage = resource.getrusage(resource.RUSAGE_CHILDREN)
+    return usage.ru_utime + usage.ru_stime
 
 
 def play(lines, wanted=()):
@@ -33,7 +40,7 @@ def play(lines, wanted=()):
     with tempfile.NamedTemporaryFile("w", suffix=".sim") as script:
         script.write("\n".join(lines) + "\n")
         script.flush()
-        before = resource.getrusage(resource.RUSAGE_CHILDREN).ru_utime
+        before = processor_time()
         process = subprocess.Popen([PROGRAM, "sim", script.name], stdout=subprocess.PIPE)
         os.set_blocking(process.stdout.fileno(), False)
         printed, when = b"", {}
@@ -53,7 +60,7 @@ def play(lines, wanted=()):
         for text in wanted:
             if text not in when:
                 sys.exit(f"{text.decode()} was not printed")
-        return resource.getrusage(resource.RUSAGE_CHILDREN).ru_utime - before, [when[text] for text in wanted]
+        return processor_time() - before, [when[text] for text in wanted]
 
 
 def failing(lines, live):
@@ -82,6 +89,14 @@ def landing_kept(used):
     lines += [f"take {client}" for client in range(1, 17) for _ in range(BOX)]
     lines += ["step 30000", "cut"] * 4 + ["send"] + [f"backup {before + packet}" for packet in range(4)]
     return failing(lines, b"\nlive 2 steps ")
+
+
+def succeeded(pages, sectors, rounds):
+    """The processor time of so many failures of a primary, after each of which a new backup is filled."""
+    lines = [f"boot {pages} {sectors} 1 beacon", "step 22"]
+    for packet in range(rounds):
+        lines += ["fail primary", "golive", "protect", "send", f"backup {packet}", f"ack {packet}"]
+    return play(lines)[0]
 
 
 def copying(count, fresh=False):
@@ -116,8 +131,9 @@ for pages, sectors in [(16, 64), (256, 2048), (4096, 32768), (16384, 32768)]:
     live = statistics.median(going_live(pages, sectors) for _ in range(TIMES))
     copied = min(copying(pages * PAGE + sectors * SECTOR) for _ in range(TIMES))
     given = min(giving_back(pages, sectors) for _ in range(TIMES))
+    one, more = (min(succeeded(pages, sectors, rounds) for _ in range(5)) for rounds in (1, ROUNDS + 1))
     print(f"{pages:5} pages, {sectors:5} sectors: going live {seen(live)}, copying them {copied * 1e6:6.0f} us, "
-          f"giving back a machine's {given * 1e6:6.0f} us", flush=True)
+          f"giving back a machine's {given * 1e6:6.0f} us; with a new backup {seen((more - one) / ROUNDS)}", flush=True)
 
 for used, boxes in [(True, "boxes that were used"), (False, "boxes fresh from the system")]:
     live = statistics.median(landing_kept(used) for _ in range(TIMES))
