@@ -27,6 +27,7 @@ mod op_at;
 mod op_steps;
 mod paces;
 mod page_ops;
+mod page_runs;
 mod pairs;
 mod places;
 mod prepared_words;
