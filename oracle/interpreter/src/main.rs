@@ -4,6 +4,7 @@
 //! `interpreter run WORDS STEPS` runs the words of a file for so many steps, and prints its registers and the speed.
 //! `interpreter until WORDS MOST` runs until the guest jumps to itself, and says after how many steps that is.
 //! `interpreter pairs WORDS STEPS COUNT` prints the COUNT pairs of instructions that follow each other most often in so many steps.
+//! `interpreter pairs SCRIPT COUNT` prints those of all steps of a script.
 //! `interpreter sim SCRIPT` plays a script of `remus sim`.
 //! `interpreter live [without-gate]` answers each line of a script on standard input as it comes, as `remus live` does; `without-gate`:
 //! what the guest sends is on its way at once, so that a failure loses what was told to clients.
@@ -40,6 +41,7 @@ mod virtio;
 
 use hart::{Machine, RAM_BASE};
 use pair::Pair;
+use pairs::Pairs;
 use protect::Zeros;
 use std::io::{BufRead, Write};
 use std::time::Instant;
@@ -55,7 +57,9 @@ fn main() {
     match words[1..] {
         ["run", file, steps] => run(file, parsed(steps, "a number of steps")),
         ["until", file, most] => until(file, parsed(most, "a number of steps")),
-        ["sim", file] => sim(file),
+        ["sim", file] => {
+            play(file, None, |answer| println!("{answer}"));
+        }
         ["live"] => live(true),
         ["live", "without-gate"] => live(false),
         ["node"] => {
@@ -126,6 +130,12 @@ fn main() {
             parsed(steps, "a number of steps"),
             parsed(count, "a number of pairs"),
         ),
+        ["pairs", script, count] => {
+            let count = parsed(count, "a number of pairs");
+            if let Some(pairs) = play(script, Some(Pairs::default()), |_| {}) {
+                pairs.print(count);
+            }
+        }
         ["images", count] => {
             println!("{:016x}", images::run(parsed(count, "a number of images")))
         }
@@ -221,28 +231,26 @@ fn show(machine: &Machine) {
     println!("sent {} frames", machine.sent.len());
 }
 
-fn sim(file: &str) {
+/// Plays a script, and says each answer. Where pairs of instructions are to be counted, it gives those of all steps.
+fn play(file: &str, counted: Option<Pairs>, say: impl Fn(&str)) -> Option<Pairs> {
     let text = read(file);
-    let mut pair = None;
-    for line in text
+    let mut lines = text
         .lines()
-        .filter(|line| !line.is_empty() && !line.starts_with('#'))
-    {
-        let answer = match &mut pair {
-            None => boot(line).map(|started| {
-                pair = Some(started);
-                "booted".into()
-            }),
-            Some(pair) => pair.obey(line),
-        };
-        match answer {
-            Some(answer) => println!("{answer}"),
-            None => {
-                eprintln!("interpreter: bad line: {line:.60}");
-                std::process::exit(1);
-            }
-        }
+        .filter(|line| !line.is_empty() && !line.starts_with('#'));
+    let first = lines.next()?;
+    let mut pair = boot(first).unwrap_or_else(|| refuse(first));
+    pair.counted = counted;
+    say("booted");
+    for line in lines {
+        say(&pair.obey(line).unwrap_or_else(|| refuse(line)));
     }
+    pair.counted
+}
+
+/// Ends the program for a line that isn't known here.
+fn refuse(line: &str) -> ! {
+    eprintln!("interpreter: bad line: {line:.60}");
+    std::process::exit(1)
 }
 
 fn live(is_gated: bool) {

@@ -2,6 +2,7 @@
 //! history only the length is kept. Written from the tables of docs/PROTOCOL.md.
 
 use crate::hart::Machine;
+use crate::pairs::Pairs;
 use std::collections::VecDeque;
 
 const CLIENT_MAC: [u8; 5] = [2, 0, 0, 0, 1];
@@ -73,6 +74,8 @@ pub struct Pair {
     entries: u64,
     /// Whether frames are held until their checkpoint is acknowledged.
     is_gated: bool,
+    /// The pairs of instructions that were run, where they are counted.
+    pub counted: Option<Pairs>,
 }
 
 impl Pair {
@@ -95,6 +98,7 @@ impl Pair {
             delivered: 0,
             entries: 0,
             is_gated: true,
+            counted: None,
         }
     }
 
@@ -156,6 +160,9 @@ impl Pair {
         for _ in 0..count {
             if self.live.sent.len() > STEP_FRAMES {
                 return Err(CUT_NEEDED);
+            }
+            if let Some(pairs) = &mut self.counted {
+                pairs.look(&self.live);
             }
             self.live.run(1);
             if self.mode == Mode::Alone {

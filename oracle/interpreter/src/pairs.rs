@@ -3,31 +3,55 @@
 use crate::hart::{Machine, RAM_BASE};
 use std::collections::HashMap;
 
-/// Runs so many steps, and prints the pairs that stand behind each other in a page and run so, the most frequent first: how many of a
-/// thousand steps begin one, what they are, and which operand of the second is the register that the first writes. Where pairs overlap,
-/// as three loads do, each counts.
-pub fn print(machine: &mut Machine, steps: u64, most: usize) {
-    let mut counts: HashMap<(&str, &str, &str), u64> = HashMap::new();
-    let mut before: Option<(u64, u32)> = None;
-    for _ in 0..steps {
+/// How often words stood behind each other in a page and ran so, of all steps that were shown. Where pairs overlap, as three loads do, each
+/// counts.
+#[derive(Default)]
+pub struct Pairs {
+    counts: HashMap<(u32, u32), u64>,
+    before: Option<(u64, u32)>,
+    steps: u64,
+}
+
+impl Pairs {
+    /// A machine is about to make a step.
+    pub fn look(&mut self, machine: &Machine) {
         let at = machine.pc.wrapping_sub(RAM_BASE) as usize;
         let here = machine.ram.get(at..at.wrapping_add(4)).map(|bytes| {
             (machine.pc, u32::from_le_bytes(bytes.try_into().expect("4 bytes")))
         });
-        if let (Some((from, first)), Some((pc, second))) = (before, here) {
+        if let (Some((from, first)), Some((pc, second))) = (self.before, here) {
             if pc == from + 4 && pc % 4096 != 0 {
-                let pair = (name_of(first), name_of(second), read_of(first, second));
-                *counts.entry(pair).or_default() += 1;
+                *self.counts.entry((first, second)).or_default() += 1;
             }
         }
-        before = here;
+        self.before = here;
+        self.steps += 1;
+    }
+
+    /// Prints so many of them, the most frequent first: how many of a thousand steps begin one, what they are, and which operand of the
+    /// second is the register that the first writes.
+    pub fn print(&self, most: usize) {
+        let mut rows: HashMap<(&str, &str, &str), u64> = HashMap::new();
+        for ((first, second), count) in &self.counts {
+            let pair = (name_of(*first), name_of(*second), read_of(*first, *second));
+            *rows.entry(pair).or_default() += count;
+        }
+        let mut rows: Vec<_> = rows.into_iter().collect();
+        rows.sort_by_key(|(pair, count)| (std::cmp::Reverse(*count), *pair));
+        for ((first, second, read), count) in rows.into_iter().take(most) {
+            println!("{:6.1} {first} {second} {read}", count as f64 * 1e3 / self.steps as f64);
+        }
+    }
+}
+
+/// Runs so many steps, and prints their pairs.
+pub fn print(machine: &mut Machine, steps: u64, most: usize) {
+    let mut pairs = Pairs::default();
+    for _ in 0..steps {
+        pairs.look(machine);
         machine.run(1);
     }
-    let mut rows: Vec<_> = counts.into_iter().collect();
-    rows.sort_by_key(|(pair, count)| (std::cmp::Reverse(*count), *pair));
-    for ((first, second, read), count) in rows.into_iter().take(most) {
-        println!("{:6.1} {first} {second} {read}", count as f64 * 1e3 / steps as f64);
-    }
+    pairs.print(most);
 }
 
 /// Which operand of a word is the register that another word in front of it writes.
