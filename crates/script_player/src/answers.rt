@@ -1,10 +1,7 @@
 //! What a line after the boot line does to the pair, and what is printed of it.
 
 ghost use Rattle.std.specs.Prelude.{◌≡◌, ℕ, List, [], option_map};
-ghost use Rattle.pair_core.specs.Pair.{IsConsistent};
-ghost use Rattle.pair_core.specs.Replication.{KeepsBackup};
-ghost use Rattle.pair_core.specs.Runs.{StepsAnswer};
-ghost use Rattle.pair_core.specs.Service.{ServesSteps, moment};
+ghost use Rattle.pair_core.specs.Answering.{step_reply};
 ghost use Rattle.script_player.specs.Lines.{line_of, order, Line as SpelledLine};
 ghost use Rattle.script_player.specs.Meaning.{AsksFor};
 ghost use Rattle.script_player.specs.internal.Playing.{IsDone, Tells};
@@ -12,7 +9,7 @@ ghost use Rattle.script_player.specs.Printed.{named_sector};
 
 use crate::lines::Line;
 use crate::player::Turn;
-use crate::replies::{write_reply, write_sector, write_show};
+use crate::replies::{write_number, write_refusal, write_reply, write_sector, write_show};
 use crate::script::Command;
 use crate::text::Text;
 use pair_core::{Event, Refusal, Reply, SECTOR_BYTES, World};
@@ -71,22 +68,21 @@ fn tell(reply: Reply, text: &mut Text) -> Turn
 fn step(world: &mut World, count: u64, text: &mut Text) -> Turn
     ensures { (no_memory : List ℕ) → IsDone no_memory world.old (order (Command.Steps count)) result text.new.items world.new }
 {
-    let reply = run_steps(world, count);
-    tell(reply, text)
+    let answer = world.run_steps(count);
+    tell_steps(answer, text)
 }
 
-/// The last of `count` steps' replies, or the first refusal.
-fn run_steps(world: &mut World, count: u64) -> Reply
-    ensures outcome { StepsAnswer world.old.start world.old.protocol count result world.new.protocol }
-    ensures start { world.new.start ≡ world.old.start }
-    ensures backup { KeepsBackup world.old.nodes world.new.nodes }
-    ensures consistent { IsConsistent world.new }
-    ensures serves { ServesSteps world.old.start (moment world.old) count result (moment world.new) }
+/// The last of several steps' replies is printed, or the first refusal; a want of memory is handed back. A [`Reply`] has room for a frame,
+/// and most lines are steps, so none is made.
+fn tell_steps(answer: Result<u64, Refusal>, text: &mut Text) -> Turn
+    ensures { Tells (step_reply answer) result text.new.items }
 {
-    match world.run_steps(count) {
-        Ok(steps) => Reply::Steps(steps),
-        Err(refusal) => Reply::Refused(refusal),
+    match answer {
+        Ok(steps) => write_number(text, "steps", steps),
+        Err(Refusal::NoMemory(wanted)) => return Turn::NoMemory(wanted),
+        Err(refusal) => write_refusal(text, &refusal),
     }
+    Turn::Played
 }
 
 /// Prints the state of the pair.
