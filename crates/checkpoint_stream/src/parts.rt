@@ -12,13 +12,22 @@ use crate::place::Place;
 use crate::rules::{HEAD_NUMBERS, head_row};
 use crate::states::{state_from, version_from};
 use crate::widths::{block_widths, mask_widths, sector_widths};
-use epoch_snapshot::{Block, Checkpoint, PageChange, SectorChange};
+use epoch_snapshot::{BLOCK_BYTES, Block, Checkpoint, PageChange, SectorChange};
 use frame_list::{Frame, FrameList};
 use guest_rules::{SECTOR_BYTES, Shape};
-use memory_wanted::MemoryWanted;
+use memory_wanted::{MemoryWanted, reserve};
 use std::alloc::Global;
 use std::marker::Model;
 use std::mem;
+
+/// The blocks of a page.
+const PAGE_BLOCKS: usize = 64;
+
+/// The bytes of a page's record that has one block: its number, its mask and the block.
+const PAGE_RECORD_BYTES: usize = 4 + 8 + BLOCK_BYTES;
+
+/// The bytes of a sector's record: its number and its contents.
+const SECTOR_RECORD_BYTES: usize = 4 + SECTOR_BYTES;
 
 /// The parts of a checkpoint as far as they are read, and the bytes of the unit that has begun.
 #[derive(Drop)]
@@ -270,10 +279,34 @@ impl Parts {
         }
         let width = self.width();
         if self.filled == 0 && width <= rest.len() {
+            self.make_room(rest.len())?;
             self.judge(&rest[..width])?;
             return Ok(width);
         }
         self.take_part(rest, width)
+    }
+
+    /// Makes room for the records that so many bytes hold, where the first of the pages, or of the sectors, comes next: no more of them than
+    /// are due, and no more than these bytes can hold.
+    fn make_room(&mut self, bytes: usize) -> Result<(), MemoryWanted>
+        ensures same { self.new ≡ self.old }
+        ensures no_room { OnErr result (has_room self.old.place ≡ false) }
+    {
+        match self.place {
+            Place::PageIndex { left, from: 0 } => {
+                let due = left as usize + 1;
+                reserve(&mut self.pages, due.min(bytes / PAGE_RECORD_BYTES))?;
+                reserve(
+                    &mut self.blocks,
+                    (PAGE_BLOCKS * due).min(bytes / BLOCK_BYTES),
+                )
+            }
+            Place::SectorIndex { left, from: 0 } => {
+                let due = left as usize + 1;
+                reserve(&mut self.sectors, due.min(bytes / SECTOR_RECORD_BYTES))
+            }
+            _ => Ok(()),
+        }
     }
 
     /// Takes bytes of the unit that comes next, which has begun or which they don't complete. Answers how many.

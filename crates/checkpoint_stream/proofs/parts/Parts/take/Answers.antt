@@ -1,5 +1,5 @@
 use Rattle.std.proofs.{Common.{rules, ◌≡◌, ◌≢◌, ◌<◌, ℕ, [], length, take, ◌∙◌, ap, arith}, lemmas.List.length-take-le}
-use Rattle.checkpoint_stream.specs.{Readings.{width_of, width_at}, declared.place.Place.TheVariants.FrameBytes}
+use Rattle.checkpoint_stream.specs.{Readings.{width_of, width_at, judged}, declared.place.Place.TheVariants.FrameBytes}
 use Rattle.checkpoint_stream.proofs.{Feeding.Takes-unit, PlaceLemmas.part-nothing}
 use Rattle.checkpoint_stream.proofs.parts.Parts.take.Goals as goal
 
@@ -13,4 +13,5 @@ returns-then-width-rest-clause-read c =
     let width : width_at c.self.inside.place c.self.inside.known ≡ width_of c.args.self.now = ap width_of c.self.view_is in
     let some : 0 < c.width-width.result = omega (arith, c.width-width.ensures.value, width, c.self.invariant.3) in
     Takes-unit c.args.self.now c.judge.new.self _ c.requires.going begun (omega (arith, whole, some)) (whole
-    ∙ c.width-width.ensures.value) c.in_ok-judge.ensures.ok
+    ∙ c.width-width.ensures.value) (c.in_ok-judge.ensures.ok
+    ∙ ap (λ r. judged r (take c.width-width.result c.args.rest.now)) c.make_room.ensures.same)
