@@ -1,5 +1,5 @@
 //! Cuts: the checkpoint of what a machine changed, and the one of all that it holds.
-ghost use Rattle.std.specs.Prelude.{◌≡◌, ◌^◌, ◌<◌, ◌≤◌, IfOk, [], length, replicate};
+ghost use Rattle.std.specs.Prelude.{◌≡◌, ◌*◌, ◌^◌, ◌<◌, ◌≤◌, IfOk, [], length, replicate, nat_le, if◌then◌else◌};
 ghost use Rattle.guest_rules.specs.Guest.{Guest, sector_count};
 ghost use Rattle.epoch_snapshot.specs.Bases.{IsBase, IsCheckpointOver};
 ghost use Rattle.epoch_snapshot.specs.Cuts.{used_sectors};
@@ -15,6 +15,20 @@ use std::alloc::Global;
 
 /// The form in which cuts are written.
 const VERSION: u32 = 2;
+
+/// The blocks of a page for which a list begins with room.
+const FIRST_PAGE_BLOCKS: usize = 16;
+
+/// For how many pages at most.
+const FIRST_PAGES: usize = 64;
+
+/// The blocks for which a list begins with room, where so many pages may change: 16 each, for 64 of them at most. In most epochs that is
+/// enough.
+fn first_blocks(pages: usize) -> usize
+    ensures { result ≡ 16 * (if nat_le pages 64 then pages else 64) }
+{
+    FIRST_PAGE_BLOCKS * pages.min(FIRST_PAGES)
+}
 
 /// The checkpoint of what the machine changed since its last settle: the pages and blocks that differ, the sectors written since, and
 /// the frames in its outbox. It is of version 2. Over each guest with the memory of that settle and the machine's other sectors it makes
@@ -43,7 +57,7 @@ pub fn cut_delta(
     let mut pages = with_capacity(alloc, machine.dirty_count())?;
     let mut sectors = with_capacity(alloc, machine.dirty_sectors().len())?;
     let frames = FrameList::copies(alloc, machine.outbox())?;
-    let mut blocks = Vec::new(alloc);
+    let mut blocks = with_capacity(alloc, first_blocks(machine.dirty_count()))?;
     push_pages(machine, Over::Settled, shape.pages, &mut pages, &mut blocks)?;
     push_written(machine, &mut sectors);
     Ok(Checkpoint::from_parts(
@@ -78,8 +92,9 @@ pub fn cut_full(
         (used_sectors machine.now.guest.sectors (sector_count machine.now.guest.sectors)) [] machine.now generation 0) }
 {
     let shape = machine.shape();
-    let mut pages = Vec::new(alloc);
-    let mut blocks = Vec::new(alloc);
+    // The blocks come last here too, but for the sectors, which are put in once the blocks are there.
+    let mut pages = with_capacity(alloc, shape.pages as usize)?;
+    let mut blocks = with_capacity(alloc, first_blocks(shape.pages as usize))?;
     let mut sectors = Vec::new(alloc);
     let frames = FrameList::new(alloc);
     push_pages(machine, Over::Zero, shape.pages, &mut pages, &mut blocks)?;
