@@ -81,13 +81,18 @@ they-are digits bytes h =
 lower-one : (v : ℕ) → v < 16 → is_lower_digit (slice_index lower_digits v) ≡ true
 lower-one v small = agree_below_at (λ v. is_lower_digit (slice_index lower_digits v)) (λ _. true) 16 v refl small
 
-all-lower : (bytes : List ℕ) → IsBytes bytes → list_all is_lower_digit (encode_lower bytes) ≡ true
+pub all-lower : (bytes : List ℕ) → IsBytes bytes → list_all is_lower_digit (encode_lower bytes) ≡ true
 unfolding encode_with
 all-lower [] h = refl
 all-lower (b ∷ bytes) h =
     let fits : b < 256 = h 0 in
     and_from _ _ (lower-one (b / 16) (omega arith))
     (and_from _ _ (lower-one (b % 16) (omega arith)) (all-lower bytes (λ i. h (suc i))))
+
+-- digits write one list of bytes
+pub same-bytes : (digits xs ys : List ℕ) → IsBytes xs → IsBytes ys → digits ≡ encode_lower xs → digits ≡ encode_lower ys → xs ≡ ys
+same-bytes digits xs ys small small' e e' =
+    decode_of-same digits xs ys (ap decode_of e ∙ decode_of-encode_lower xs small) (ap decode_of e' ∙ decode_of-encode_lower ys small')
 
 pub read-hex : {V : Type 0} (digits : List ℕ) (items : V → List ℕ) (o : Option V)
     → IfSome o (λ v. (digits ≡ encode_lower (items v)) × IsBytes (items v)) → 0 < length digits → IfSome o (λ v. IsHex digits (items v))

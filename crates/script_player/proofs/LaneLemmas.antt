@@ -1,5 +1,5 @@
 -- Hex digits as the lanes of vectors.
-use Rattle.std.proofs.Common.{◌≡◌, ◌<◌, ◌+◌, ◌-◌, ◌*◌, ◌/◌, ◌%◌, ◌^◌, ℕ, zero, suc, Bool, true, false, not, cond, leb, ltb, eqb, ◌&&◌, ◌||◌}
+use Rattle.std.proofs.Common.{◌≡◌, ◌<◌, ◌≤◌, ◌+◌, ◌-◌, ◌*◌, ◌/◌, ◌%◌, ◌^◌, ℕ, zero, suc, Bool, true, false, not, cond, leb, ltb, eqb, ◌&&◌, ◌||◌}
 use Rattle.std.proofs.Common.{List, [], ◌∷◌, ◌++◌, length, take, drop, map, get_or, replicate, slice_index, nat_eq, refl, sym, ap, ap₂, subst}
 use Rattle.std.proofs.Common.{bit_and, bit_or, eqb-true, ltb-true, w8, Fits, ◌∙◌, arith}
 use Rattle.std.proofs.lemmas.{Bool.{agree_below_at, and_parts}, List.{get_or_append_left, get_or-append-add, drop_all}}
@@ -134,12 +134,20 @@ length-others : (cs : List ℕ) → length (map (top 7) (others cs (length cs)))
 length-others [] = refl
 length-others (c ∷ cs) = ap suc (length-others cs)
 
+pub some-digits : (cs : List ℕ) (k : ℕ) → length cs ≡ k → k ≤ 64 → Each1 (Fits w8) cs
+    → nat_eq (mask_l (map (top 7) (others cs k)) % 2 ^ 64) 0 ≡ list_all is_lower_digit cs
+some-digits cs k many fits h =
+    subst (λ n. nat_eq (mask_l (map (top 7) (others cs n)) % 2 ^ 64) 0 ≡ list_all is_lower_digit cs) many
+    (ap (λ m. nat_eq m 0) (mask_l-mod (map (top 7) (others cs (length cs))) 64 (omega (arith, many, fits, length-others cs)))
+    ∙ none-set cs h)
+
 pub all-digits : (cs : List ℕ) → length cs ≡ 32 → Each1 (Fits w8) cs
     → nat_eq (mask_l (map (top 7) (others cs 32)) % 2 ^ 64) 0 ≡ list_all is_lower_digit cs
-all-digits cs many h =
-    subst (λ n. nat_eq (mask_l (map (top 7) (others cs n)) % 2 ^ 64) 0 ≡ list_all is_lower_digit cs) many
-    (ap (λ m. nat_eq m 0) (mask_l-mod (map (top 7) (others cs (length cs))) 64 (omega (arith, length-others cs)))
-    ∙ none-set cs h)
+all-digits cs many h = some-digits cs 32 many (omega arith) h
+
+pub eight-digits : (cs : List ℕ) → length cs ≡ 8 → Each1 (Fits w8) cs
+    → nat_eq (mask_l (map (top 7) (others cs 8)) % 2 ^ 64) 0 ≡ list_all is_lower_digit cs
+eight-digits cs many h = some-digits cs 8 many (omega arith) h
 
 -- ---- the numbers of digits
 
@@ -210,6 +218,9 @@ joined-digits ns more (suc n) a h e =
 
 pub block-joined : (ns : List ℕ) → length ns ≡ 32 → AllByRecursion IsSmall ns → encode_lower (joined (ns ++ ns) 16 0) ≡ map digit ns
 block-joined ns many h = joined-digits ns ns 16 0 h (sym many)
+
+pub eight-joined : (ns : List ℕ) → length ns ≡ 8 → AllByRecursion IsSmall ns → encode_lower (joined (ns ++ ns) 4 0) ≡ map digit ns
+eight-joined ns many h = joined-digits ns ns 4 0 h (sym many)
 
 -- ---- fronts
 

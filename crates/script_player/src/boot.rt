@@ -6,6 +6,7 @@ ghost use Rattle.script_player.specs.Boot.{IsBoot, BootLine, boot_line, IsInLimi
 ghost use Rattle.script_player.specs.internal.Head.{in_limits, head_of, head_view};
 ghost use Rattle.script_player.specs.Limits.{most_pages, most_sectors};
 
+use crate::digits::four_bytes;
 use crate::fields::{after, hex_bytes, operand};
 use crate::limits::{MOST_CLIENTS, MOST_PAGES, MOST_SECTORS};
 use memory_wanted::{MemoryWanted, extend_from_slice, push, with_capacity};
@@ -205,7 +206,7 @@ fn read_word(field: &[u8]) -> Option<u32>
     ensures found { IfSome result (λ w. field.now ≡ word_field w) }
     ensures only { (w : ℕ) → w < 2 ^ 32 → field.now ≡ word_field w → result ≡ Some w }
 {
-    let bytes = hex_bytes(after(field, b" ")?)?;
+    let bytes = four_bytes(after(field, b" ")?)?;
     Some(u32::from_be_bytes(bytes))
 }
 

@@ -1,6 +1,6 @@
 //! Hex digits in lower case, a vector of bytes at a time.
 
-ghost use Rattle.std.specs.Prelude.{◌≡◌, ℕ, ◌+◌, ◌*◌, ◌%◌, ◌<◌, ◌≤◌, ◌++◌, [], false, List, length, map, slice_index, true, IfNone, IfSome, IsFalse, IsTrue};
+ghost use Rattle.std.specs.Prelude.{◌≡◌, ℕ, ◌+◌, ◌*◌, ◌%◌, ◌<◌, ◌≤◌, ◌++◌, [], false, List, length, map, slice_index, true, IfNone, IfSome, IsFalse, IsTrue, Some};
 ghost use Rattle.std.specs.List.{list_all, AllByRecursion};
 ghost use Rattle.std.specs.Vec.{vec_len, vec_capacity};
 ghost use Rattle.arrayvec.specs.ArrayVec.{array_vec_len};
@@ -16,6 +16,9 @@ const BLOCK_BYTES: usize = 16;
 
 /// The digits of so many bytes.
 const BLOCK_DIGITS: usize = 32;
+
+/// The digits of four bytes.
+const FOUR_DIGITS: usize = 8;
 
 /// Puts the digits of bytes last, two for each, into a text that has room for them.
 pub fn add_digits<const N: usize>(text: &mut ArrayVec<u8, N>, bytes: &[u8])
@@ -93,6 +96,61 @@ pub(crate) fn read_into(list: Vec<u8>, digits: &[u8]) -> Option<Vec<u8>>
     }
     are_bytes(bytes.as_slice());
     Some(bytes)
+}
+
+/// The four bytes that the text writes, each as two hex digits in lower case.
+#[inline(always)]
+pub(crate) fn four_bytes(text: &[u8]) -> Option<[u8; 4]>
+    // What is read is spelled so.
+    ensures found { IfSome result (λ bytes. text.now ≡ encode_lower bytes) }
+    ensures bytes { IfSome result (λ bytes. (length bytes ≡ 4) × IsBytes bytes) }
+    // What is spelled so is read so.
+    ensures only { (bytes : List ℕ) → length bytes ≡ 4 → IsBytes bytes → text.now ≡ encode_lower bytes → result ≡ Some bytes }
+{
+    let Ok(digits) = <&[u8; FOUR_DIGITS]>::try_from(text) else {
+        return None;
+    };
+    let lanes = u8x8::from_array(*digits);
+    if !are_eight_digits(lanes) {
+        return None;
+    }
+    let four = four_of(eight_numbers(lanes));
+    are_bytes(four.as_slice());
+    Some(four)
+}
+
+/// Whether all of eight are digits in lower case.
+#[inline(always)]
+fn are_eight_digits(lanes: u8x8) -> bool
+    ensures { result ≡ list_all is_lower_digit lanes }
+{
+    let from_zero = lanes - u8x8::splat(b'0');
+    let from_a = lanes - u8x8::splat(b'a');
+    let others = from_zero.simd_ge(u8x8::splat(10)) & from_a.simd_ge(u8x8::splat(6));
+    others.to_bitmask() == 0
+}
+
+/// The number of each of eight digits, all of which are in lower case.
+#[inline(always)]
+fn eight_numbers(digits: u8x8) -> u8x8
+    requires { list_all is_lower_digit digits ≡ true }
+    ensures digits { map (slice_index lower_digits) result ≡ digits }
+    ensures small { AllByRecursion (λ n. n < 16) result }
+{
+    let from_zero = digits - u8x8::splat(b'0');
+    let letters = from_zero.simd_ge(u8x8::splat(10));
+    from_zero - letters.select(u8x8::splat(39), u8x8::splat(0))
+}
+
+/// The bytes of eight numbers below 16, two for each, the higher first.
+#[inline(always)]
+fn four_of(numbers: u8x8) -> [u8; 4]
+    requires { AllByRecursion (λ n. n < 16) numbers }
+    ensures { encode_lower result ≡ map (slice_index lower_digits) numbers }
+{
+    let first = numbers.swizzle::<4>([0, 2, 4, 6]);
+    let second = numbers.swizzle::<4>([1, 3, 5, 7]);
+    ((first << u8x4::splat(4)) | second).to_array()
 }
 
 /// What a list of bytes holds are bytes.
