@@ -60,10 +60,10 @@ module _ (text : List ℕ) (command : Command) where
 
   command_of-read : Read IsCommand text command (command_of text)
   command_of-read =
-      asks (word_event text) (word_event-read text) (
-      asks (numbered_event text) (numbered_event-read text) (
       told IsCommand text command (λ n. cond (nat_eq n 0) None (Some (Steps n))) (numbered_by (codes "step ") text)
       (λ n e. steps n (is_numbered (codes "step ") text n e) (nat_eq n 0) refl) (
+      asks (word_event text) (word_event-read text) (
+      asks (numbered_event text) (numbered_event-read text) (
       one IsCommand text command (codes "sector ") (λ sector. Sector sector) (λ sector is. is) (
       word IsCommand text command (codes "show") Show (λ e. e) (
       λ e. cc)))))

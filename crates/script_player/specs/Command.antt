@@ -69,8 +69,8 @@ numbered_event text =
 -- the command
 abbrev pub command_of : List ℕ → Option Command
 command_of text =
-    option_map_or (λ event. Some (Asks event)) (word_event text)
+    option_map_or (λ n. if nat_eq n 0 then None else Some (Steps n)) (numbered_by (codes "step ") text)
+    (option_map_or (λ event. Some (Asks event)) (word_event text)
     (option_map_or (λ event. Some (Asks event)) (numbered_event text)
-    (option_map_or (λ n. if nat_eq n 0 then None else Some (Steps n)) (numbered_by (codes "step ") text)
     (option_map_or (λ sector. Some (Sector sector)) (numbered_by (codes "sector ") text)
     (if bytes_eq text (codes "show") then Some Show else None))))

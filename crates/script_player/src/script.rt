@@ -31,22 +31,22 @@ pub fn read_command(text: &[u8]) -> Option<Command>
     first_form(text)
 }
 
-/// The first form that fits.
+/// The first form that fits. Most lines of a script are steps.
 fn first_form(text: &[u8]) -> Option<Command>
     ensures { result ≡ command_of text.now }
 {
-    if let Some(event) = word_event(text) {
-        return Some(Command::Asks(event));
-    }
-    if let Some(event) = numbered_event(text) {
-        return Some(Command::Asks(event));
-    }
     if let Some(count) = numbered(text, b"step ") {
         return if count == 0 {
             None
         } else {
             Some(Command::Steps(count))
         };
+    }
+    if let Some(event) = word_event(text) {
+        return Some(Command::Asks(event));
+    }
+    if let Some(event) = numbered_event(text) {
+        return Some(Command::Asks(event));
     }
     if let Some(sector) = numbered(text, b"sector ") {
         return Some(Command::Sector(sector));
