@@ -1,17 +1,16 @@
 -- What stands after a front, and the number that digits write.
 use Rattle.std.proofs.Common.{◌≡◌, ◌≢◌, ◌<◌, ◌≤◌, ◌^◌, ℕ, zero, suc, Bool, true, false, List, [], ◌∷◌, ◌++◌, length, Option, Some}
-use Rattle.std.proofs.Common.{None, MatchOption, Bor, take, drop, add-one, ◌+◌, ◌-◌, Result, Ok, Err, refl, sym, ap, arith, ◌==◌}
-use Rattle.std.proofs.Common.{nat_eq, nat_lt, get_or, ◌∙◌}
+use Rattle.std.proofs.Common.{None, MatchOption, Bor, take, drop, add-one, ◌+◌, ◌*◌, ◌-◌, refl, sym, ap, arith, ◌==◌}
+use Rattle.std.proofs.Common.{nat_lt, get_or, ◌∙◌}
 use Rattle.std.proofs.lemmas.List.{take_rest}
 use Rattle.std.proofs.lemmas.List.Quantifiers.{position-Some}
-use Rattle.std.proofs.lemmas.{List.Sums.fails_before_first, Grind.common_steps, Str.{IsUtf8-from_ascii, Parse.IsNumeralModel}}
-use Rattle.std.proofs.lemmas.Str.{Parse.{numerals_by_value, tells_all_ascii_digits, parse_plain}, Ascii.{IsAscii-nil, IsAscii-cons}}
+use Rattle.std.proofs.lemmas.{List.Sums.fails_before_first, Grind.common_steps}
+use Rattle.std.proofs.lemmas.Str.Parse.{IsNumeralModel, numerals_by_value, tells_all_ascii_digits, digits_value-take-le}
+use Rattle.std.proofs.lemmas.Int.Digits.{digits_value_more}
 use Rattle.std.proofs.lemmas.Bool.{and_parts, and_from, false_from_ne_true}
-use Rattle.std.specs.Result.{OkIff, result_ok}
 use Rattle.std.specs.List.{position, position_or_len}
-use Rattle.std.specs.Cmp.Lexicographic.{pointwise}
 use Rattle.std.specs.Str.{all_ascii_digits}
-use Rattle.std.specs.{Str.{IsAscii, IsUtf8, Parse.{digits_value, ParsesUnsigned}}, Char.is_ascii_digit}
+use Rattle.std.specs.{Str.Parse.digits_value, Char.{is_ascii_digit, digit_value}}
 use Rattle.script_player.specs.Fields.{text_after, number_written, parted}
 use Rattle.script_player.specs.laws.Fields.{text_after-append, text_after-some, writes, Writes, writes_to}
 
@@ -31,35 +30,50 @@ after_cases front text (Some rest) h = ap (text_after front) h ∙ text_after-ap
 pub own : IsNumeralModel (λ ds. all_ascii_digits ds ≡ true) (digits_value 10)
 own = numerals_by_value _ tells_all_ascii_digits
 
-digits_are_ascii : (text : List ℕ) → all_ascii_digits text ≡ true → IsAscii text
-digits_are_ascii [] h = IsAscii-nil
-digits_are_ascii (c ∷ cs) h = let both = and_parts (is_ascii_digit c) (all_ascii_digits cs) h in
-    let low : c < 128 = grind (arith, both.0) in IsAscii-cons c cs low (digits_are_ascii cs both.1)
-
 no_number : (text : List ℕ) → ¬ (Writes text) → number_written text ≡ None
 no_number text apart = rw (false_from_ne_true (writes text) (λ h. apart (writes_to text h))) refl
 
--- text that isn't UTF-8 writes no number
-pub number-not_utf8 : (text : List ℕ) → ¬ (IsUtf8 text) → number_written text ≡ None
-number-not_utf8 text apart = no_number text (λ h. apart (IsUtf8-from_ascii text (digits_are_ascii text h.0)))
+one_more : (text : List ℕ) (i : ℕ) → i < length text → all_ascii_digits (take i text) ≡ true → is_ascii_digit (get_or text i 0) ≡ true
+    → all_ascii_digits (take (suc i) text) ≡ true
+one_more [] i low all one = absurd (omega (arith, low))
+one_more (c ∷ text) zero low all one = and_from _ _ one refl
+one_more (c ∷ text) (suc i) low all one =
+    let both = and_parts (is_ascii_digit c) (all_ascii_digits (take i text)) all in
+    and_from _ _ both.0 (one_more text i (omega (arith, low)) both.1 one)
 
-number_read : {E : Type 0} (text : List ℕ) (parsed : Result ℕ E) → OkIff parsed (Writes text) (digits_value 10 text)
-    → result_ok parsed ≡ number_written text
-number_read text (Ok n) h =
-    let some : nat_lt 0 (length text) ≡ true = grind (arith, h.0.1) in
-    let fits : nat_lt (digits_value 10 text) (2 ^ 64) ≡ true = grind (arith, h.0.2) in
-    let on : writes text ≡ true = and_from _ _ (and_from _ _ some h.0.0) fits in
-    rw on (ap Some h.1)
-number_read text (Err e) h = sym (no_number text h)
+-- one digit more
+pub digits-more : (text : List ℕ) (i : ℕ) → i < length text → all_ascii_digits (take i text) ≡ true
+    → is_ascii_digit (get_or text i 0) ≡ true → all_ascii_digits (take (i + 1) text) ≡ true
+digits-more text i low all one = ap (λ k. all_ascii_digits (take k text)) (add-one i) ∙ one_more text i low all one
 
--- what `parse` answers, where no plus stands first
-pub number-parsed : {E : Type 0} (text : List ℕ) (parsed : Result ℕ E) → ParsesUnsigned 64 10 text parsed
-    → pointwise nat_eq (43 ∷ []) (take 1 text) ≡ false → result_ok parsed ≡ number_written text
-number-parsed text parsed h plus = number_read text parsed (parse_plain own 64 text parsed h (no_plus text plus))
-  where
-    no_plus : (text : List ℕ) → pointwise nat_eq (43 ∷ []) (take 1 text) ≡ false → get_or text 0 0 ≢ 43
-    no_plus [] h e = absurd (omega arith)
-    no_plus (c ∷ cs) h e = grind arith
+-- what they write with it
+pub value-more : (text : List ℕ) (i : ℕ) → i < length text → is_ascii_digit (get_or text i 0) ≡ true
+    → digits_value 10 (take (i + 1) text) ≡ digits_value 10 (take i text) * 10 + (get_or text i 0 - 48)
+value-more text i low one =
+    let digit : digit_value (get_or text i 0) ≡ get_or text i 0 - 48 = grind (arith, one) in
+    digits_value_more 10 text i low ∙ ap (λ d. digits_value 10 (take i text) * 10 + d) digit
+
+digit-at : (text : List ℕ) (i : ℕ) → all_ascii_digits text ≡ true → i < length text → is_ascii_digit (get_or text i 0) ≡ true
+digit-at [] i all low = absurd (omega (arith, low))
+digit-at (c ∷ text) zero all low = (and_parts (is_ascii_digit c) (all_ascii_digits text) all).0
+digit-at (c ∷ text) (suc i) all low =
+    digit-at text i (and_parts (is_ascii_digit c) (all_ascii_digits text) all).1 (omega (arith, low))
+
+-- a text with another character writes no number
+pub number-not_digits : (text : List ℕ) (i : ℕ) → i < length text → is_ascii_digit (get_or text i 0) ≡ false → number_written text ≡ None
+number-not_digits text i low other = no_number text (λ h. cc (sym other ∙ digit-at text i h.0 low))
+
+-- nor does one whose first digits write too large a number
+pub number-too_large : (text : List ℕ) (i : ℕ) → 2 ^ 64 ≤ digits_value 10 (take i text) → number_written text ≡ None
+number-too_large text i large = no_number text (λ h. absurd (omega (arith, h.2, large, digits_value-take-le 10 text i (omega arith))))
+
+-- digits, at least one, that write no larger number
+pub number-digits : (text : List ℕ) → Writes text → number_written text ≡ Some (digits_value 10 text)
+number-digits text h =
+    let some : nat_lt 0 (length text) ≡ true = grind (arith, h.1) in
+    let fits : nat_lt (digits_value 10 text) (2 ^ 64) ≡ true = grind (arith, h.2) in
+    let on : writes text ≡ true = and_from _ _ (and_from _ _ some h.0) fits in
+    rw on refl
 
 -- ---- the text before and after the first space
 

@@ -19,13 +19,19 @@ pub fn after<'a>(text: &'a [u8], front: &[u8]) -> Option<&'a [u8]>
 pub fn number(text: &[u8]) -> Option<u64>
     ensures { result ≡ number_written text.now }
 {
-    if text.starts_with(b"+") {
+    if text.is_empty() {
         return None;
     }
-    let Ok(text) = str::from_utf8(text) else {
-        return None;
-    };
-    text.parse().ok()
+    let mut value: u64 = 0;
+    for digit in text {
+        if !digit.is_ascii_digit() {
+            return None;
+        }
+        value = value
+            .checked_mul(10)?
+            .checked_add(u64::from(*digit - b'0'))?;
+    }
+    Some(value)
 }
 
 /// The number after `front`, where the text is `front` and a number.
