@@ -5,6 +5,8 @@
 //! `interpreter until WORDS MOST` runs until the guest jumps to itself, and says after how many steps that is.
 //! `interpreter pairs WORDS STEPS COUNT` prints the COUNT pairs of instructions that follow each other most often in so many steps.
 //! `interpreter pairs SCRIPT COUNT` prints those of all steps of a script.
+//! `interpreter rows WORDS STEPS` prints how often each row of instructions was run in so many steps, up to a jump or a page's end.
+//! `interpreter rows SCRIPT` prints those of all steps of a script.
 //! `interpreter sim SCRIPT` plays a script of `remus sim`.
 //! `interpreter live [without-gate]` answers each line of a script on standard input as it comes, as `remus live` does; `without-gate`:
 //! what the guest sends is on its way at once, so that a failure loses what was told to clients.
@@ -125,15 +127,19 @@ fn main() {
             parsed(runs, "a number of runs"),
             parsed(seed, "a number"),
         ),
-        ["pairs", file, steps, count] => pairs::print(
-            &mut Machine::boot(PAGES, SECTORS, &words_of(&read(file))),
-            parsed(steps, "a number of steps"),
-            parsed(count, "a number of pairs"),
-        ),
+        ["pairs", file, steps, count] => {
+            pairs_of(file, steps).print(parsed(count, "a number of pairs"))
+        }
         ["pairs", script, count] => {
             let count = parsed(count, "a number of pairs");
             if let Some(pairs) = play(script, Some(Pairs::default()), |_| {}) {
                 pairs.print(count);
+            }
+        }
+        ["rows", file, steps] => pairs_of(file, steps).print_rows(),
+        ["rows", script] => {
+            if let Some(pairs) = play(script, Some(Pairs::default()), |_| {}) {
+                pairs.print_rows();
             }
         }
         ["images", count] => {
@@ -229,6 +235,12 @@ fn show(machine: &Machine) {
         csrs.mepc, csrs.mcause, csrs.mtval
     );
     println!("sent {} frames", machine.sent.len());
+}
+
+/// The pairs of so many steps of the words of a file.
+fn pairs_of(file: &str, steps: &str) -> Pairs {
+    let mut machine = Machine::boot(PAGES, SECTORS, &words_of(&read(file)));
+    pairs::of(&mut machine, parsed(steps, "a number of steps"))
 }
 
 /// Plays a script, and says each answer. Where pairs of instructions are to be counted, it gives those of all steps.

@@ -1,4 +1,4 @@
-//! Which instructions follow each other most often, of all words that a guest runs.
+//! Which instructions follow each other most often, of all words that a guest runs, and in which rows.
 
 use crate::hart::{Machine, RAM_BASE};
 use std::collections::HashMap;
@@ -8,6 +8,10 @@ use std::collections::HashMap;
 #[derive(Default)]
 pub struct Pairs {
     counts: HashMap<(u32, u32), u64>,
+    /// How often each row of words was run, one behind the other in a page, up to a jump or the page's end.
+    rows: HashMap<Vec<u32>, u64>,
+    /// The row that is being run.
+    row: Vec<u32>,
     before: Option<(u64, u32)>,
     steps: u64,
 }
@@ -19,13 +23,40 @@ impl Pairs {
         let here = machine.ram.get(at..at.wrapping_add(4)).map(|bytes| {
             (machine.pc, u32::from_le_bytes(bytes.try_into().expect("4 bytes")))
         });
-        if let (Some((from, first)), Some((pc, second))) = (self.before, here) {
-            if pc == from + 4 && pc % 4096 != 0 {
+        match (self.before, here) {
+            (Some((from, first)), Some((pc, second))) if pc == from + 4 && pc % 4096 != 0 => {
                 *self.counts.entry((first, second)).or_default() += 1;
             }
+            _ => self.end_row(),
         }
+        self.row.extend(here.map(|(_, word)| word));
         self.before = here;
         self.steps += 1;
+    }
+
+    /// The row that was run ends here.
+    fn end_row(&mut self) {
+        let row = std::mem::take(&mut self.row);
+        if !row.is_empty() {
+            *self.rows.entry(row).or_default() += 1;
+        }
+    }
+
+    /// Prints the rows, the most frequent first: how often each was run, and its instructions, each but the first with a slash and which of its
+    /// operands is the register that the one in front of it writes.
+    pub fn print_rows(mut self) {
+        self.end_row();
+        let mut told: HashMap<String, u64> = HashMap::new();
+        for (row, count) in &self.rows {
+            let mut names = vec![name_of(row[0]).to_string()];
+            names.extend(row.windows(2).map(|two| format!("{}/{}", name_of(two[1]), read_of(two[0], two[1]))));
+            *told.entry(names.join(" ")).or_default() += count;
+        }
+        let mut told: Vec<_> = told.into_iter().collect();
+        told.sort_by(|(row, count), (other, times)| times.cmp(count).then(row.cmp(other)));
+        for (row, count) in told {
+            println!("{count} {row}");
+        }
     }
 
     /// Prints so many of them, the most frequent first: how many of a thousand steps begin one, what they are, and which operand of the
@@ -44,14 +75,14 @@ impl Pairs {
     }
 }
 
-/// Runs so many steps, and prints their pairs.
-pub fn print(machine: &mut Machine, steps: u64, most: usize) {
+/// The pairs of so many steps.
+pub fn of(machine: &mut Machine, steps: u64) -> Pairs {
     let mut pairs = Pairs::default();
     for _ in 0..steps {
         pairs.look(machine);
         machine.run(1);
     }
-    pairs.print(most);
+    pairs
 }
 
 /// Which operand of a word is the register that another word in front of it writes.
