@@ -20,6 +20,7 @@ pub use laws::{
 pub use mode_laws::modes_change_by_failovers_table;
 pub use pair_history::released_frames_were_sent;
 pub use pair_record::{
-    Entry, Event, Frame, History, Mode, Packet, Refusal, Reply, Show, limits_are_the_rules,
+    Entry, Event, Frame, History, Mode, Packet, Refusal, Reply, Show, TakenFrame,
+    limits_are_the_rules,
 };
 pub use world::World;

@@ -6,6 +6,7 @@ use failover::Mode;
 use memory_wanted::MemoryWanted;
 use pair_history::Frame;
 use std::fmt;
+use std::marker::Model;
 use thiserror::Error;
 
 /// What may happen next to the pair.
@@ -137,6 +138,42 @@ impl From<MemoryWanted> for Refusal {
     }
 }
 
+/// A frame that a client took, in a place of its own: a [`Reply`] has no room for one. Contracts see it as the frame.
+#[derive(Drop)]
+pub struct TakenFrame {
+    place: Box<Frame>,
+}
+
+impl Model for TakenFrame {
+    ghost use Rattle.pair_history.specs.Entries.{Frame};
+
+    ghost Value = { Frame };
+
+    ghost view = { λ taken. taken.place.value };
+}
+
+impl TakenFrame {
+    ghost use Rattle.pair_record.specs.Record.{given};
+
+    /// The frame at this place, if one was put there.
+    pub fn given(is_some: bool, place: Box<Frame>) -> Option<TakenFrame>
+        ensures { result ≡ given is_some place.value }
+    {
+        if is_some {
+            Some(TakenFrame { place })
+        } else {
+            None
+        }
+    }
+
+    /// The frame.
+    pub fn frame(&self) -> &Frame
+        ensures { result.now ≡ self.now }
+    {
+        &self.place
+    }
+}
+
 /// What an event is answered.
 #[derive(Drop)]
 pub enum Reply {
@@ -176,7 +213,7 @@ pub enum Reply {
     /// The frame waits for the guest under this number, counted from 1.
     Delivered(u64),
     /// The frame, or none where the box is empty.
-    Took(Option<Frame>),
+    Took(Option<TakenFrame>),
     /// The primary has stopped.
     Stopped,
     /// The backup has stopped, and `landed` frames were put into boxes, counted for each client.

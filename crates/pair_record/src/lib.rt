@@ -11,7 +11,7 @@ mod modes;
 mod record;
 mod window;
 
-pub use event::{Event, Packet, Refusal, Reply, Show};
+pub use event::{Event, Packet, Refusal, Reply, Show, TakenFrame};
 pub use failover::Mode;
 pub use limits::limits_are_the_rules;
 pub use modes::{is_alone, is_stopped, mode_refusal};

@@ -38,7 +38,8 @@ use std::marker::Model;
 ///
 /// What a client or its line does is one call, refused by the first row of its table of refusals that applies, or done; so are an
 /// acknowledgement, the backup's failure, and the primary's, which looks at the mode too. Where a machine's part comes between, a
-/// `.._refusal` answers that row, and the event itself asks that none applies.
+/// `.._refusal` answers that row, and the event itself asks that none applies; [`PairRecord::take_refusal`] answers it before the call,
+/// which looks at it again.
 ///
 /// A call that answers a [`MemoryWanted`] was refused a growth; the record and the ports are as they were then.
 #[derive(Drop)]

@@ -9,8 +9,9 @@ ghost use Rattle.pair_threads.specs.internal.Scripts.{AddsScript, AreScripts, Te
 
 use crate::sessions::Session;
 use hypervisor::{Client, Pair};
-use memory_wanted::{MemoryWanted, push, with_capacity};
-use pair_record::Reply;
+use memory_wanted::{MemoryWanted, boxed, push, with_capacity};
+use pair_history::Frame;
+use pair_record::{Refusal, Reply, TakenFrame};
 use pair_run::{Action, Answered, ClientLine};
 use std::alloc::Global;
 use std::marker::Model;
@@ -19,6 +20,7 @@ use std::sync::Wait;
 /// A client, its line, and what it was answered so far. Contracts see it as a `ScriptState` of the specs.
 #[derive(Drop)]
 pub(crate) struct Script<P: Pair> {
+    alloc: Global,
     client: Client<P>,
     line: ClientLine,
     replies: Vec<Reply>,
@@ -40,17 +42,19 @@ impl<P: Pair + Send + Sync> Session for Script<P> {
     /// Makes the line's actions in their order.
     fn serve<R: Wait>(&mut self, rt: &R) -> bool {
         let Script {
+            alloc,
             client,
             line,
             replies,
         } = self;
-        play(rt, client, line.actions.as_slice(), replies)
+        play(rt, *alloc, client, line.actions.as_slice(), replies)
     }
 }
 
 /// The client makes these actions, one after another, and keeps what it is answered. Answers whether there was room for all answers.
 fn play<P: Pair, R: Wait>(
     rt: &R,
+    alloc: Global,
     client: &mut Client<P>,
     actions: &[Action],
     replies: &mut Vec<Reply>,
@@ -59,7 +63,7 @@ fn play<P: Pair, R: Wait>(
         → HasMade P.start actions.now replies.new.items client.old client.new }
 {
     for action in actions {
-        let reply = act(rt, client, action);
+        let reply = act(rt, alloc, client, action);
         let Ok(()) = push(replies, reply) else {
             return false;
         };
@@ -68,21 +72,25 @@ fn play<P: Pair, R: Wait>(
 }
 
 /// Makes one action. Answers what it was answered.
-fn act<P: Pair, R: Wait>(rt: &R, client: &mut Client<P>, action: &Action) -> Reply
+fn act<P: Pair, R: Wait>(rt: &R, alloc: Global, client: &mut Client<P>, action: &Action) -> Reply
     ensures { Tells P.start action.now result client.old client.new }
 {
     match action {
-        Action::Take => take(rt, client),
+        Action::Take => take(rt, alloc, client),
         Action::Deliver(bytes) => deliver(rt, client, bytes),
     }
 }
 
-/// Takes a frame.
-fn take<P: Pair, R: Wait>(rt: &R, client: &mut Client<P>) -> Reply
+/// Takes a frame, into a place that is had first.
+fn take<P: Pair, R: Wait>(rt: &R, alloc: Global, client: &mut Client<P>) -> Reply
     ensures { Tells P.start Take result client.old client.new }
 {
-    match client.take(rt) {
-        Ok(frame) => Reply::Took(frame),
+    let mut place = match boxed(alloc, Frame::new()) {
+        Ok(place) => place,
+        Err(wanted) => return Reply::Refused(Refusal::NoMemory(wanted)),
+    };
+    match client.take_into(rt, &mut *place) {
+        Ok(is_some) => Reply::Took(TakenFrame::given(is_some, place)),
         Err(why) => Reply::Refused(why),
     }
 }
@@ -148,6 +156,7 @@ fn add_script<P: Pair>(
     let replies = with_capacity(alloc, line.actions.len())?;
     let client = take_client(seats, line.client);
     let script = Script {
+        alloc,
         client,
         line,
         replies,
@@ -228,6 +237,7 @@ fn list<P: Pair>(script: Script<P>, lists: &mut Lists<P>) -> Result<(), MemoryWa
     ensures clients { OnOk result (lists.new.clients.items ≡ lists.old.clients.items ++ client_of script ∷ []) }
 {
     let Script {
+        alloc: _,
         client,
         line,
         replies,

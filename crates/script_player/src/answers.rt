@@ -72,8 +72,8 @@ fn step(world: &mut World, count: u64, text: &mut Text) -> Turn
     tell_steps(answer, text)
 }
 
-/// The last of several steps' replies is printed, or the first refusal; a want of memory is handed back. A [`Reply`] has room for a frame,
-/// and most lines are steps, so none is made.
+/// The last of several steps' replies is printed, or the first refusal; a want of memory is handed back. Most lines are steps, so no
+/// [`Reply`] is made of their count.
 fn tell_steps(answer: Result<u64, Refusal>, text: &mut Text) -> Turn
     ensures { Tells (step_reply answer) result text.new.items }
 {

@@ -47,7 +47,7 @@ fn spell(text: &mut Text, reply: &Reply)
         Reply::Admitted(number) => write_number(text, "admitted", *number),
         Reply::Empty => write_words(text, "empty"),
         Reply::Delivered(number) => write_number(text, "delivered", *number),
-        Reply::Took(Some(frame)) => write_frame(text, frame),
+        Reply::Took(Some(taken)) => write_frame(text, taken.frame()),
         Reply::Took(None) => write_words(text, "none"),
         Reply::Dropped => write_words(text, "dropped"),
         Reply::Stopped => write_words(text, "stopped primary"),

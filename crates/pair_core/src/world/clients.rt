@@ -1,12 +1,11 @@
 //! What clients and their lines do, at the world.
 ghost use Rattle.std.specs.Prelude.{◌≡◌, None};
 ghost use Rattle.pair_record.specs.declared.event.Event.TheVariants as events;
-ghost use Rattle.pair_record.specs.Record.{given};
 ghost use Rattle.pair_core.specs.Done.{DoesAllowed};
 
 use super::{WORD_FULL, World, by_table};
-use memory_wanted::MemoryWanted;
-use pair_record::{Frame, Reply};
+use memory_wanted::{MemoryWanted, boxed};
+use pair_record::{Frame, Reply, TakenFrame};
 
 impl World {
     /// The first frame of a client's inbox arrives at the guest.
@@ -40,18 +39,14 @@ impl World {
     pub(super) fn take(&mut self, client: u64) -> Result<Reply, MemoryWanted>
         ensures { DoesAllowed None (events.Take client) result self.old self.new }
     {
-        let mut frame = Frame::new();
-        let why = match self.record.take(client, &mut frame, WORD_FULL) {
-            Ok(is_some) => return Ok(Reply::Took(taken(is_some, frame))),
+        if let Some(why) = self.record.take_refusal(client, WORD_FULL) {
+            return Ok(Reply::Refused(why));
+        }
+        let mut place = boxed(self.alloc, Frame::new())?;
+        let why = match self.record.take(client, &mut *place, WORD_FULL) {
+            Ok(is_some) => return Ok(Reply::Took(TakenFrame::given(is_some, place))),
             Err(why) => by_table(why)?,
         };
         Ok(Reply::Refused(why))
     }
-}
-
-/// The frame, if one was there.
-fn taken(is_some: bool, frame: Frame) -> Option<Frame>
-    ensures { result ≡ given is_some frame }
-{
-    if is_some { Some(frame) } else { None }
 }

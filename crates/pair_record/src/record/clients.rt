@@ -127,6 +127,19 @@ impl PairRecord {
         Ok(number)
     }
 
+    /// Why a client's take is refused, other than for want of memory: asked before a place for the frame is had.
+    pub fn take_refusal(&self, client: u64, word_full: bool) -> Option<Refusal>
+        ensures { result ≡ first_refusal (take_refusals word_full (length self.now.ports.boxes) self.now.protocol client) }
+    {
+        if !self.is_client(client) {
+            Some(Refusal::NoClient)
+        } else if self.is_exhausted_by(1) || word_full {
+            Some(Refusal::Exhausted)
+        } else {
+            None
+        }
+    }
+
     /// The client takes the first frame of its box, which is put into `into`, or finds none. Answers whether there was one; else, and after
     /// a refusal, `into` is as before.
     ///

@@ -131,7 +131,7 @@ fn is_alone(reply: &Reply, wanted: (u64, u64)) -> bool {
 /// Whether a client took the beacon's frame.
 fn took_frame(reply: &Reply) -> bool {
     match reply {
-        Reply::Took(Some(frame)) => frame.as_slice() == FRAME.as_slice(),
+        Reply::Took(Some(taken)) => taken.frame().as_slice() == FRAME.as_slice(),
         _ => false,
     }
 }
