@@ -1,5 +1,6 @@
 pub mod BytesLemmas
 pub mod FlagLemmas
+pub mod TimeRunLemmas
 pub mod TimerLemmas
 pub mod QuietLemmas
 pub mod OpLemmas

@@ -39,6 +39,7 @@ mod snapshots;
 mod step;
 mod stores;
 mod stretches;
+mod time_reads;
 
 pub use block_device::SECTOR_BYTES;
 pub use bus_map::RAM_BASE;
