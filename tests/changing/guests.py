@@ -167,7 +167,7 @@ class Code:
             return [lui(rd, large), immediate(draw.of([0x13, 0x1b]), 0, other, rd, small)]
         if kind == 1:
             return [auipc(rd, draw.of([0, 0, 1, -1, large])), draw.of([addi(other, rd, small), jump_to(0, rd, 4 * draw.between(2, 40)),
-                                                                      load(2, other, rd, 4 * draw.between(-512, 512))])]
+                                                                      load(draw.of([2, 5]), other, rd, 4 * draw.between(-512, 512))])]
         by = draw.of([32, 32, 48, 56, draw.below(64)])
         return [shift(1, rd, self.any_register(), by), shift(draw.of([5, 5, 5, 1]), other, rd, by)]
 
@@ -181,11 +181,14 @@ class Code:
             lambda: [self.stored([3], DATA), self.stored([3], DATA)],
             lambda: [load(3, rd, DATA, self.offset(3)), load(3, to, DATA, self.offset(3))],
             lambda: [load(2, rd, DATA, self.offset(2)), load(2, to, draw.of([DATA, read]), self.offset(2))],
+            lambda: [load(2, rd, DATA, self.offset(2)), op(0, to, reg(), read, 0x20, 0x3b)],
+            lambda: [load(3, rd, DATA, self.offset(3)), addi(to, read, small)],
+            lambda: [load(4, rd, DATA, small), branch(0, read, reg(), ahead)],
             lambda: [load(4, rd, DATA, small), branch(1, reg(), read, ahead)],
             lambda: [branch(5, reg(), reg(), ahead), branch(1, reg(), reg(), ahead)],
             lambda: [addi(rd, reg(), small), addi(to, read, 1)],
             lambda: [addi(rd, reg(), small), op(0, to, reg(), read)],
-            lambda: [addi(rd, reg(), small), branch(6, read, reg(), ahead)],
+            lambda: [addi(rd, reg(), small), branch(draw.of([0, 6]), read, reg(), ahead)],
             lambda: [immediate(0x13, 7, rd, reg(), small), branch(0, read, reg(), ahead)],
             lambda: [shift(5, rd, reg(), by), op(0, to, reg(), read)],
             lambda: [address, load(4, to, read, small)],
@@ -196,10 +199,14 @@ class Code:
             lambda: [immediate(0x1b, 0, rd, reg(), small), immediate(0x1b, 0, to, read, small)],
             lambda: [immediate(0x1b, 0, rd, reg(), small), branch(6, read, reg(), ahead)],
             lambda: [immediate(0x1b, 1, rd, reg(), by), op(6, to, reg(), read)],
+            lambda: [immediate(0x1b, 1, rd, reg(), by), immediate(0x1b, 5, to, read, by)],
             lambda: [immediate(0x1b, 5, rd, reg(), by), immediate(0x1b, 1, to, read, by)],
+            lambda: [immediate(0x1b, 5, rd, reg(), by), branch(1, read, reg(), ahead)],
             lambda: [immediate(0x1b, 5, rd, reg(), by), op(6, to, reg(), read)],
             lambda: [op(0, rd, reg(), reg(), 0, 0x3b), shift(1, to, read, by)],
             lambda: [op(0, rd, reg(), reg(), 0, 0x3b), op(0, to, read, reg(), 0, 0x3b)],
+            lambda: [op(0, rd, reg(), reg(), 0, 0x3b), branch(7, read, reg(), ahead)],
+            lambda: [op(5, rd, reg(), reg(), 1), immediate(0x1b, 0, to, read, small)],
         ])()
 
     def changed(self):
