@@ -160,7 +160,13 @@ fn clear(memory: &mut Memory) -> bool {
 }
 
 fn has_flags(memory: &Memory, flags: [bool; 3]) -> bool {
-    memory.pages() == 3 && [memory.dirty(0), memory.dirty(1), memory.dirty(2)] == flags
+    memory.pages() == 3
+        && [memory.dirty(0), memory.dirty(1), memory.dirty(2)] == flags
+        && [
+            memory.dirty_at(0),
+            memory.dirty_at(0x1fff),
+            memory.dirty_at(0x2000),
+        ] == flags
 }
 
 fn has_zeros(memory: &Memory, zeros: [bool; 3]) -> bool {

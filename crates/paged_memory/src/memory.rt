@@ -188,6 +188,15 @@ impl Memory {
         self.written[page as usize]
     }
 
+    /// The same of the page that a byte stands in. The memory has the byte, as the caller knows.
+    #[inline]
+    pub fn dirty_at(&self, at: usize) -> bool
+        requires { at < length self.now.bytes }
+        ensures { result ≡ is_written self.now.written (at / page_bytes) }
+    {
+        self.written[at / PAGE_BYTES]
+    }
+
     /// The bytes of a page at the last settle, or at boot. The memory has it, as the caller knows.
     pub fn original(&self, page: u32) -> &[u8; PAGE_BYTES]
         requires { page_bytes * page + page_bytes ≤ length self.now.bytes }
