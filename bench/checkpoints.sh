@@ -12,6 +12,9 @@ program=${REMUS:-crates/remus/out/remus}
 interpreter=oracle/interpreter/target/release/interpreter
 folder=$(mktemp -d)
 trap 'rm -rf "$folder"' EXIT
+# The C library keeps what both give back to it, as it does of the program (crates/remus/src/main.rt): else an epoch of 64 whole pages takes
+# twice as long, since the system gives out and takes back its lists each time.
+export GLIBC_TUNABLES=glibc.malloc.mmap_threshold=33546240:glibc.malloc.trim_threshold=67092480
 # Built before the clock starts.
 [ -n "${REMUS:-}" ] || ./remus sim /dev/null
 (cd oracle/interpreter && cargo build --release --quiet)
