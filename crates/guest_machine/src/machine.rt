@@ -171,6 +171,22 @@ impl Machine {
         })
     }
 
+    /// Has at most so many pages decoded at a time from now on, or the nearest number of 1 to 256; it's 256 after boot. A page from which
+    /// the guest runs is decoded as it is reached, and then takes 11 KB; where there are as many as may be, the oldest gives way. The guest
+    /// that runs is the same, and its steps take longer where it runs from more pages.
+    pub fn limit_decoded_pages(&mut self, most: usize)
+        ensures { self.new ≡ self.old }
+    {
+        self.pages.limit(most);
+    }
+
+    /// How many pages are decoded, of 256 at most: each takes 11 KB.
+    pub fn decoded_pages(&self) -> usize
+        ensures { result ≤ 256 }
+    {
+        self.pages.count()
+    }
+
     /// One step of the guest: an interrupt that is due, or else one instruction or its exception. The frames that it sends, at
     /// most 64 of them, go last into the outbox, and the sectors that it writes go into their list. It takes no memory.
     ///

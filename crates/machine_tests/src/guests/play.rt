@@ -62,6 +62,8 @@ pub(super) enum Reading {
     DiskInterrupt,
     /// How many sectors the disk has.
     Sectors,
+    /// How many pages are decoded.
+    DecodedPages,
 }
 
 /// A line of a test: what is done with a machine, or what it then has.
@@ -81,6 +83,8 @@ pub(super) enum Line {
     StepMade,
     Settle,
     ClearOutbox,
+    /// At most so many pages are decoded at a time from now on.
+    Decodes(usize),
     /// This reading is this number.
     Is(Reading, u64),
     /// The trap registers hold the cause, the value and the pc of a trap.
@@ -210,6 +214,7 @@ fn does(rt: &impl Abort, machine: &mut Machine, line: &Line) -> bool {
         Line::StepMade => is_made(machine),
         Line::Settle => settle(machine),
         Line::ClearOutbox => clear_outbox(machine),
+        Line::Decodes(most) => decodes(machine, most),
         _ => has(rt, machine, line),
     }
 }
@@ -245,6 +250,11 @@ fn settle(machine: &mut Machine) -> bool {
 
 fn clear_outbox(machine: &mut Machine) -> bool {
     machine.clear_outbox();
+    true
+}
+
+fn decodes(machine: &mut Machine, most: usize) -> bool {
+    machine.limit_decoded_pages(most);
     true
 }
 
@@ -369,6 +379,7 @@ fn read(rt: &impl Abort, machine: &Machine, reading: Reading) -> u64 {
         Reading::DiskStatus => machine.disk().status.into(),
         Reading::DiskInterrupt => machine.disk().interrupt_status.into(),
         Reading::Sectors => machine.sectors().into(),
+        Reading::DecodedPages => machine.decoded_pages() as u64,
     }
 }
 

@@ -1,5 +1,6 @@
 //! Programs that a stock compiler made of C, run until each jumps to itself. The answers are those of Python's `zlib`, `hashlib`
-//! and whole numbers (`oracle/guest_answers.py`), the step counts those of the interpreter in `oracle/interpreter`.
+//! and whole numbers (`oracle/guest_answers.py`), the step counts those of the interpreter in `oracle/interpreter`. And a round of three
+//! pages, whose counts are sums.
 
 use super::PROGRAM;
 use super::play::{Guest, Line, Part, Reading, booted, play, plays};
@@ -85,6 +86,46 @@ fn division_agrees_with_long_division(rt: HostRuntime) {
         &[Part::Words(0, &DIVISION)],
         &DIVIDED,
     );
+}
+
+/// Three pages, each of which counts in x12 and jumps to the next one; the last one jumps to the first.
+static ROUND: Guest = Guest {
+    pages: 3,
+    sectors: 1,
+    bytes: 3 * PAGE_BYTES,
+    parts: &[
+        // ADDI x12, x12, 1; JAL x0, 4092
+        Part::Words(0, &[0x0016_0613, 0x7fd0_006f]),
+        // ADDI x12, x12, 16; JAL x0, 4092
+        Part::Words(0x1000, &[0x0106_0613, 0x7fd0_006f]),
+        // ADDI x12, x12, 256; JAL x0, -8196
+        Part::Words(0x2000, &[0x1006_0613, 0xffdf_d06f]),
+    ],
+};
+
+static ROUNDS: [Line; 17] = [
+    Line::Is(Reading::DecodedPages, 0),
+    Line::Decodes(2),
+    Line::Run(602),
+    Line::Is(Reading::DecodedPages, 2),
+    Line::Is(Reading::Pc, 0x8000_1000),
+    Line::Is(Reading::Register(12), 27_301),
+    Line::Decodes(0),
+    Line::Is(Reading::DecodedPages, 0),
+    Line::Run(602),
+    Line::Is(Reading::DecodedPages, 1),
+    Line::Is(Reading::Pc, 0x8000_2000),
+    Line::Is(Reading::Register(12), 54_617),
+    Line::Decodes(usize::MAX),
+    Line::Run(602),
+    Line::Is(Reading::DecodedPages, 3),
+    Line::Is(Reading::Pc, 0x8000_0000),
+    Line::Is(Reading::Register(12), 82_173),
+];
+
+#[test]
+fn runs_from_more_pages_than_are_decoded(rt: HostRuntime) {
+    plays(&rt, rt.alloc(), &ROUND, &[], &ROUNDS);
 }
 
 /// The hash of all bytes that the disk's guest read back.
