@@ -57,9 +57,27 @@ def configured(plan):
         sys.exit(2)
 
 
-def run(plan):
+def open_ends() -> None:
+    """Standard input, output and error, where one is closed, lead nowhere: else the next file that is opened would be it."""
+    for number in range(3):
+        try:
+            os.fstat(number)
+        except OSError:
+            os.open(os.devnull, os.O_RDWR)
+
+
+def run(plan: argparse.Namespace) -> int:
     found = configured(plan)
+    open_ends()
     log = Log(found.log, found.log_level, found.name)
+    log.write_by_thread(2)
+    try:
+        return run_daemon(found, log)
+    finally:
+        log.end()
+
+
+def run_daemon(found: settings.Settings, log: Log) -> int:
     try:
         daemon = Daemon(found, log)
     except (NodeEnded, Unusable) as error:
