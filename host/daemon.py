@@ -1,8 +1,6 @@
 """The daemon: the host's role, and the loop by the clock that joins node, link, network and control socket."""
 import secrets
 import select
-import signal
-import socket
 import time
 
 from host import messages, network
@@ -13,6 +11,7 @@ from host.meeting import Meeting
 from host.metrics import Counts
 from host.node import Node
 from host.settings import boot_line, version
+from host.signals import AtOnce, Signals
 from host.standby import Broken, Standby
 from host.state import State
 
@@ -42,7 +41,7 @@ class Daemon:
         self.node = Node(settings.node)
         self.live = self.standby = self.peer = self.life = self.shape = None
         self.instance = secrets.token_hex(8)
-        self.woken, self.wakes = socket.socketpair()  # a signal ends a wait
+        self.signals = Signals(self)
 
     # What the host is.
 
@@ -167,19 +166,18 @@ class Daemon:
 
     # The loop.
 
-    def run(self):
-        for number in (signal.SIGINT, signal.SIGTERM):
-            signal.signal(number, lambda *_: self.end())
-        for end in (self.woken, self.wakes):
-            end.setblocking(False)
-        signal.set_wakeup_fd(self.wakes.fileno())
+    def run(self) -> None:
         try:
+            self.signals.listen()
             while not self.is_over:
                 self.turn()
+        except AtOnce:
+            self.log.warning("a second signal came: this host ends at once, and what it held is gone")
         finally:
+            self.signals.ignore()
             self.close()
 
-    def end(self):
+    def end(self) -> None:
         self.is_over = True
 
     @property
@@ -189,7 +187,7 @@ class Daemon:
     def turn(self):
         is_patient = self.live is not None and self.live.is_patient
         frames = self.network.watched()
-        reading, writing = [self.woken, *frames], []
+        reading, writing = [self.signals.came, *frames], []
         self.link.watched(reading, writing, is_patient)
         for one in self.served:
             one.watched(reading, writing)
@@ -197,6 +195,8 @@ class Daemon:
         if is_patient and not readable and self.is_quiet():
             return self.quiet_epochs(reading)
         now = time.monotonic()
+        if self.signals.came in readable:
+            self.signals.hear(now)
         if is_patient and self.link.is_up:
             readable.append(self.link.connection)
         self.link.turn(readable, writable, now, self.dials)

@@ -1,6 +1,7 @@
 """The node's process, and its lines: docs/NODES.md."""
 import fcntl
 import os
+import signal
 import subprocess
 from binascii import hexlify, unhexlify
 
@@ -15,6 +16,7 @@ STEPS, WRITTEN = 7, 9  # the places of these numbers in the answer to `show`
 PIECE = 1 << 16  # bytes of a text that are asked for at a time
 LOOK = "text 0 0 0"  # asks for no byte of the full checkpoint's text, so that the node looks at the guest's next pages for it
 LOOKED_AT = 1024  # pages, with each such line
+SHIELDED = (signal.SIGINT, signal.SIGTERM, signal.SIGHUP, signal.SIGUSR1, signal.SIGUSR2)  # what tells a daemon to end, or something
 
 
 class NodeEnded(Exception):
@@ -48,14 +50,23 @@ class Answer:
         return self
 
 
+def started(command: list[str]) -> subprocess.Popen:
+    """A node's process. The signals that tell a daemon to end, which a terminal or an init system may send to all of its group, don't
+    reach it: the daemon ends it, when it is needed no more."""
+    kept = signal.pthread_sigmask(signal.SIG_BLOCK, SHIELDED)
+    try:
+        return subprocess.Popen(command, env=MEMORY | os.environ, stdin=subprocess.PIPE, stdout=subprocess.PIPE, bufsize=BUFFER)
+    except OSError as error:
+        raise NodeEnded(f"{command[0]} can't be started: {error.strerror}") from None
+    finally:
+        signal.pthread_sigmask(signal.SIG_SETMASK, kept)
+
+
 class Node:
     """A node, in this daemon's process group."""
 
     def __init__(self, command):
-        try:
-            self.process = subprocess.Popen(command, env=MEMORY | os.environ, stdin=subprocess.PIPE, stdout=subprocess.PIPE, bufsize=BUFFER)
-        except OSError as error:
-            raise NodeEnded(f"{command[0]} can't be started: {error.strerror}") from None
+        self.process = started(command)
         self.input, self.output = self.process.stdin, self.process.stdout
         for pipe in (self.input, self.output):
             try:

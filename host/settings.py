@@ -163,7 +163,7 @@ KEYS = {
     "link_ms": (milliseconds(50, 60000), "a link over which nothing comes for so long is closed"),
     "epoch_ms": (milliseconds(1, 1000), "the length of an epoch"),
     "steps_per_ms": (count(1_000_000), "what the guest was built for"),
-    "drain_ms": (milliseconds(1, 600000), "the longest that a drain waits"),
+    "drain_ms": (milliseconds(1, 600000), "the longest that a drain waits, of a host that is told to end too"),
     "network": (one_of("tap", "socket", "none"), "tap, socket or none"),
     "tap": (interface, "the tap interface"),
     "bridge": (interface, "the bridge that the tap is put on"),

@@ -10,6 +10,7 @@ from agent.life import Life, alone_in, stalls, why_not
 from agent.ocf import CONFIGURED, GENERIC, INSTALLED, NOT_RUNNING, PROMOTED, SUCCESS, UNIMPLEMENTED, Failure, meta, parameter, run, warn
 
 SCORE_LIVE, SCORE_FULL, SCORE_FIRST = 200, 100, 5
+TAKE_SECONDS = 5  # for a demotion before a stop
 
 # What can't be safe otherwise, as Pacemaker's environment says it of the clone.
 CLONE = {"clone_max": "2", "notify": "true", "promoted_max": "1", "clone_node_max": "1"}
@@ -59,10 +60,20 @@ class Pair:
         publishing = threading.Thread(target=self.cluster.publish, args=(None,))
         publishing.start()
         try:
+            self.take_guest()
             self.daemon.stop()
         finally:
             publishing.join()
         return SUCCESS
+
+    def take_guest(self) -> None:
+        """A live daemon that is told to end would have its standby go live by itself; but who is promoted Pacemaker decides."""
+        try:
+            status = self.daemon.status()
+            if status is not None and status["role"] == "live":
+                self.daemon.ask("demote", TAKE_SECONDS)
+        except Failure as failure:
+            warn(failure.reason)
 
     # Monitor.
 

@@ -1,0 +1,73 @@
+"""Signals. SIGTERM and Ctrl-C end the daemon; one whose host is live and paired hands its guest to the standby first. SIGHUP, SIGUSR1 and
+SIGUSR2 ask for nothing here."""
+import signal
+import socket
+from types import FrameType
+
+from host.live import PAIRED
+from host.tasks import Drain
+
+ENDS, IDLE = (signal.SIGINT, signal.SIGTERM), (signal.SIGHUP, signal.SIGUSR1, signal.SIGUSR2)
+
+
+class AtOnce(Exception):
+    """A second signal to end came, and what is under way is left."""
+
+
+class Signals:
+    """`host` is the daemon. A signal ends its wait, and is heard by its next turn; `came` is what the wait looks at."""
+
+    def __init__(self, host: "Daemon") -> None:
+        self.host, self.told = host, 0  # so often it was told to end
+        self.came, self.wakes = socket.socketpair()
+        for end in (self.came, self.wakes):
+            end.setblocking(False)
+
+    def listen(self) -> None:
+        signal.set_wakeup_fd(self.wakes.fileno(), warn_on_full_buffer=False)
+        for number in ENDS:
+            signal.signal(number, self.end)
+        for number in IDLE:
+            signal.signal(number, lambda *_: None)
+
+    def end(self, number: int, frame: FrameType | None) -> None:
+        self.told += 1
+        if self.told == 2:
+            raise AtOnce
+
+    def hear(self, now: float) -> None:
+        """What came since the last wait."""
+        for number in dict.fromkeys(self.came.recv(4096)):
+            name = signal.Signals(number).name
+            if number in ENDS:
+                self.hand_on(name, now)
+            else:
+                self.host.log.warning(f"{name}: there is nothing to reload, and this host goes on as it was; for another configuration end "
+                                      "this daemon, and start it again")
+
+    def hand_on(self, name: str, now: float) -> None:
+        host = self.host
+        if isinstance(host.task, Drain):
+            host.log.info(f"{name}: {host.task.name}, and this host ends once that is over; it ends at once by a second signal")
+            asked = host.task.answer
+            host.task.answer = lambda answer: (asked(answer), self.is_over(answer))
+        elif host.role == "live" and host.live.mode == PAIRED and host.task is None:
+            host.log.info(f"{name}: {host.live.standby[0]} gets the guest first, within {host.settings.drain_ms * 1000:.0f} ms; this host "
+                          "ends at once by a second signal")
+            host.task = Drain(host, host.settings.drain_ms, True, False, self.is_over, now)
+            host.task.turn(now)
+        else:
+            host.end()
+
+    def is_over(self, answer: dict) -> None:
+        """A drain is over."""
+        if not answer["ok"]:
+            self.host.log.warning("the guest wasn't handed on: what this host held is gone, and its standby can be promoted")
+        self.host.end()
+
+    @staticmethod
+    def ignore() -> None:
+        """From now on: the daemon ends."""
+        signal.set_wakeup_fd(-1)
+        for number in (*ENDS, *IDLE):
+            signal.signal(number, signal.SIG_IGN)
