@@ -5,6 +5,7 @@ import sys
 
 from host import ctl, keys, settings
 from host.daemon import VERSION, Daemon
+from host.log import command as log_command
 from host.logs import Log
 from host.network import Unusable
 from host.node import NodeEnded
@@ -14,6 +15,7 @@ TEXT = """The daemon of one host of a pair.
     remus-host run --config FILE       runs the daemon
     remus-host check --config FILE     checks a configuration, and does no more
     remus-host keys FOLDER NAME        makes NAME.key and NAME.crt for the link
+    remus-host log list|check          shows or checks a standby's log
     remus-host ctl VERB                asks a daemon that runs: status, promote, alone, drain, demote, save, metrics
 
 docs/OPERATE.md says what each does, key by key and verb by verb."""
@@ -32,6 +34,7 @@ def reader():
     one = kinds.add_parser("keys", help="makes a key and its certificate")
     one.add_argument("folder")
     one.add_argument("name")
+    log_command.add(kinds)
     ctl.add(kinds)
     return commands
 
@@ -103,4 +106,6 @@ def main(words=None):
     if plan.command == "check":
         configured(plan)
         return 0
+    if plan.command == "log":
+        return log_command.run(plan)
     return ctl.run(plan) if plan.command == "ctl" else run(plan)

@@ -1,0 +1,194 @@
+"""The log of a standby as its daemon has it: what it is to have is given to a thread of its own, which writes it, syncs it, and tells what
+is on the disk. Syncs go together: all that was given while one was under way is written before the next."""
+import signal
+import socket
+import threading
+import time
+from collections import deque
+from collections.abc import Callable
+from pathlib import Path
+
+from host.log.disk import Disk
+from host.log.format import Head, LogBehind, Rotten
+from host.log.reading import Found, newest
+from host.log.writer import BaseFile, LogFile, Mark, begun, continued, tidy
+
+MARK_EVERY = 1.0  # seconds
+Job = tuple[Callable[..., None], ...]
+
+
+class Keeper:
+    """`reached` is (session, number): of that attachment all up to that number is on the disk. `failed` is why nothing more is written, if
+    so. The methods of the loop give what is to be done, and answer at once."""
+
+    def __init__(self, disk: Disk, folder: Path) -> None:
+        self.disk, self.folder = disk, Path(folder)
+        self.log: LogFile | None = None
+        self.base: BaseFile | None = None
+        self.mark: Mark | None = None
+        self.marked_at, self.synced_at = 0.0, None
+        self.reached: tuple[str, int] | None = None
+        self.failed: str | None = None
+        self.jobs: deque[Job] = deque()
+        self.more, self.is_ending = threading.Condition(), False
+        self.woken, self.wakes = socket.socketpair()
+        for end in (self.woken, self.wakes):
+            end.setblocking(False)
+        self.thread: threading.Thread | None = None
+
+    # The loop's side.
+
+    def fileno(self) -> int:
+        """Readable where there is something new to be known."""
+        return self.woken.fileno()
+
+    def heard(self) -> None:
+        """What was new is known."""
+        try:
+            self.woken.recv(4096)
+        except BlockingIOError:
+            pass
+
+    def resume(self, found: Found) -> None:
+        """Goes on with a log that was judged, behind its end."""
+        self.give(self.continue_log, found)
+
+    def piece(self, generation: int, data: bytes, is_first: bool) -> None:
+        """The next bytes of a generation's full checkpoint."""
+        self.give(self.write_base, generation, data, is_first)
+
+    def begin(self, generation: int, head: Head) -> None:
+        """The full checkpoint is whole: its log begins, and what was here before goes. The head's sum is filled in."""
+        self.give(self.begin_log, generation, head)
+
+    def text(self, number: int, data: bytes) -> None:
+        self.give(self.append, number, data)
+
+    def over(self) -> None:
+        """What is here is never loaded again."""
+        self.give(self.end_log)
+
+    def give(self, *job) -> None:
+        if self.thread is None:
+            self.thread = threading.Thread(target=self.run, name="sync", daemon=True)
+            self.thread.start()
+        with self.more:
+            self.jobs.append(job)
+            self.more.notify()
+
+    def finish(self, seconds: float) -> bool:
+        """Waits, so long at most, until all that was given is on the disk. Whether it is."""
+        done = threading.Event()
+        self.give(self.settle, done)
+        return done.wait(seconds) and self.failed is None
+
+    def close(self, seconds: float = 5.0) -> None:
+        """What was given is done, and the thread ends."""
+        if self.thread is not None:
+            with self.more:
+                self.is_ending = True
+                self.more.notify()
+            self.thread.join(seconds)
+
+    # The thread's side.
+
+    def run(self) -> None:
+        signal.pthread_sigmask(signal.SIG_BLOCK, signal.valid_signals())  # they are the daemon's
+        while True:
+            with self.more:
+                while not self.jobs and not self.is_ending:
+                    self.more.wait()
+                jobs, self.jobs = self.jobs, deque()
+            if not jobs:
+                return
+            self.work(jobs)
+            try:
+                self.wakes.send(b"x")
+            except BlockingIOError:
+                pass  # the loop is going to wake all the same
+            if time.monotonic() - self.marked_at >= MARK_EVERY:
+                self.tried(self.put_mark)
+
+    def work(self, jobs: deque[Job]) -> None:
+        """Does all of these, and then syncs once."""
+        for method, *words in jobs:
+            self.tried(method, *words)
+        self.tried(self.sync)
+
+    def tried(self, method: Callable[..., None], *words) -> None:
+        """Does it, unless something failed before: that is final, since nobody knows what of it is on the disk."""
+        if self.failed is not None:
+            return
+        try:
+            method(*words)
+        except OSError as error:
+            self.failed = error.strerror or str(error)
+
+    def continue_log(self, found: Found) -> None:
+        self.log = continued(self.disk, self.folder, found)
+        self.mark = Mark(self.disk, self.folder, found.generation)
+        self.reached = (found.head.session, found.number)
+
+    def write_base(self, generation: int, data: bytes, is_first: bool) -> None:
+        if is_first:
+            self.disk.make_folder(self.folder)
+            self.end_what_is_here()
+            if self.base is not None:
+                self.base.discard()
+            self.base = BaseFile(self.disk, self.folder, generation)
+        self.base.write(data)
+
+    def end_what_is_here(self) -> None:
+        """No log that is here is ever loaded again, since what comes now is later."""
+        if self.log is None:
+            try:
+                found = newest(self.disk, self.folder)
+            except (Rotten, LogBehind):
+                return  # it is refused whenever it is read
+            if found is not None:
+                self.continue_log(found)
+        self.end_log()
+        self.sync()
+
+    def begin_log(self, generation: int, head: Head) -> None:
+        base, self.base = self.base, None
+        self.close_log()
+        self.forget_mark(generation)
+        self.log = begun(self.disk, self.folder, generation, head._replace(base=base.finish()))
+        tidy(self.disk, self.folder, generation)
+        self.mark, self.marked_at = Mark(self.disk, self.folder, generation), 0.0
+        self.reached, self.synced_at = (head.session, 0), time.time()
+
+    def forget_mark(self, generation: int) -> None:
+        """A mark of another life's log of that generation isn't one of this."""
+        if (name := f"{generation}.mark") in self.disk.names(self.folder):
+            self.disk.remove(self.folder / name)
+            self.disk.sync_folder(self.folder)
+
+    def append(self, number: int, data: bytes) -> None:
+        self.log.append(number, data)
+
+    def end_log(self) -> None:
+        if self.log is not None:
+            self.log.over()
+
+    def close_log(self) -> None:
+        for one in (self.log, self.mark):
+            if one is not None:
+                one.close()
+        self.log = self.mark = None
+
+    def sync(self) -> None:
+        log = self.log
+        if log is not None and log.synced < log.end:
+            log.sync()
+            self.reached, self.synced_at = (log.session, log.number), time.time()
+
+    def settle(self, done: threading.Event) -> None:
+        self.sync()
+        done.set()
+
+    def put_mark(self) -> None:
+        if self.mark is not None and self.reached is not None:
+            self.mark.put(self.reached[1], self.log.synced)
+            self.marked_at = time.monotonic()

@@ -1,0 +1,212 @@
+"""What a folder holds, as it is judged by its files alone: the log that counts, or why it is refused. Nothing is guessed."""
+from collections.abc import Iterator
+from hashlib import blake2b
+from pathlib import Path
+from typing import NamedTuple
+
+from host.log.disk import Disk
+from host.log.format import (BASE_HEAD, BASE_MAGIC, BLOCK, FIRST, HEAD, HEADER, MAGIC, MARK, MARK_MAGIC, OVER, SECTOR, TEXT, Head,
+                             LogBehind, Record, Rotten, chained, generation_of, is_as_written, read_head, seed_of, size_of)
+
+PIECE = 1 << 20  # bytes that are read at a time
+KNOWN = {HEAD, TEXT, OVER}
+
+
+class Found(NamedTuple):
+    """A generation's log, up to its end. `places` has where the record of each text begins; `begun` and `ended` when the first record and
+    the last were written, in milliseconds of the wall clock."""
+    generation: int
+    head: Head
+    places: list[int]
+    is_over: bool
+    chain: bytes
+    end: int
+    begun: int
+    ended: int
+
+    @property
+    def number(self) -> int:
+        return len(self.places)
+
+
+class LogReader:
+    """The file of a generation's log, open to be read. Raises OSError."""
+
+    def __init__(self, disk: Disk, folder: Path, generation: int) -> None:
+        self.disk, self.generation, self.name = disk, generation, f"{generation}.log"
+        self.seed = seed_of(self.name)
+        self.file = disk.open_to_read(folder / self.name)
+        self.size = disk.size(self.file)
+
+    def close(self) -> None:
+        self.disk.close(self.file)
+
+    def rotten(self, why: str) -> Rotten:
+        return Rotten(f"{self.name}: {why}")
+
+    def record_at(self, place: int) -> Record | None:
+        """The record that begins there, if all of its sectors are there as they were written."""
+        first = self.disk.read(self.file, BLOCK, place)
+        if len(first) < SECTOR or not is_as_written(first[:SECTOR], self.seed, place // SECTOR):
+            return None
+        magic, kind, generation, number, when, length, synced, chain = HEADER.unpack_from(first, 4)
+        size = size_of(length)
+        if magic != MAGIC or place + size > self.size:
+            return None
+        raw = first + self.disk.read(self.file, size - BLOCK, place + BLOCK)
+        sectors = [raw[at:at + SECTOR] for at in range(0, size, SECTOR)]
+        if not all(is_as_written(sector, self.seed, number_of) for number_of, sector in enumerate(sectors, place // SECTOR)):
+            return None
+        body = b"".join(sector[4:] for sector in sectors)
+        data = body[HEADER.size:HEADER.size + length]
+        return Record(kind, generation, number, when, synced, chain, data, place + size)
+
+    def judged(self) -> Found | None:
+        """The log up to its end, or None where not even its head is there. Raises Rotten."""
+        place, chain, head, places, is_over, begun, ended = 0, FIRST, None, [], False, 0, 0
+        while (one := self.record_at(place)) is not None:
+            self.follows(one, place, chain, len(places), is_over)
+            if one.kind == HEAD:
+                head, begun = read_head(one.data), one.when
+            elif one.kind == TEXT:
+                places.append(place)
+            is_over |= one.kind == OVER
+            place, chain, ended = one.behind, one.chain, one.when
+        self.check_torn(place)
+        return None if head is None else Found(self.generation, head, places, is_over, chain, place, begun, ended)
+
+    def follows(self, one: Record, place: int, chain: bytes, number: int, is_over: bool) -> None:
+        """Whether a record is the next one. Raises Rotten."""
+        wanted = chained(chain, one.kind, one.generation, one.number, one.when, one.synced, one.data)
+        if one.generation != self.generation or one.chain != wanted:
+            raise self.rotten(f"the record at {place} doesn't follow the one before it")
+        expected = number + 1 if one.kind == TEXT else number
+        if one.kind not in KNOWN or (one.kind == HEAD) != (place == 0) or one.number != expected or is_over or one.synced > place:
+            raise self.rotten(f"the record at {place} is out of place")
+
+    def check_torn(self, end: int) -> None:
+        """Behind the end there may be what was written and never synced, in any part. Nothing there may be damaged, nor say that what
+        begins at the end was synced. Raises Rotten."""
+        for begin in range(end, self.size, PIECE):
+            raw = self.disk.read(self.file, PIECE, begin)
+            if raw == bytes(len(raw)):
+                continue
+            for at in range(0, len(raw) - SECTOR + 1, SECTOR):
+                sector, place = raw[at:at + SECTOR], begin + at
+                if sector == bytes(SECTOR):
+                    continue
+                if not is_as_written(sector, self.seed, place // SECTOR):
+                    raise self.rotten(f"the sector at {place} is neither as it was written nor as it was before")
+                if place % BLOCK == 0 and sector[4:8] == MAGIC and HEADER.unpack_from(sector, 4)[6] > end:
+                    raise self.rotten(f"the record at {end} was synced, and isn't there")
+
+    def texts(self, found: Found) -> Iterator[bytes]:
+        """The texts of a log that was judged. Raises Rotten where one isn't there any more."""
+        for place in found.places:
+            if (one := self.record_at(place)) is None:
+                raise self.rotten(f"the record at {place} can't be read any more")
+            yield one.data
+
+
+def judged_log(disk: Disk, folder: Path, generation: int) -> Found | None:
+    """A generation's log, beside its mark. Raises Rotten, LogBehind, OSError."""
+    reader = LogReader(disk, folder, generation)
+    try:
+        found = reader.judged()
+    finally:
+        reader.close()
+    check_mark(disk, folder, generation, found)
+    return found
+
+
+def check_mark(disk: Disk, folder: Path, generation: int, found: Found | None) -> None:
+    """Raises LogBehind where a log ends before its mark, and Rotten where the mark is damaged."""
+    name = f"{generation}.mark"
+    if name not in disk.names(folder):
+        return
+    seed, end, file = seed_of(name), found.end if found else 0, disk.open_to_read(folder / name)
+    try:
+        raw = disk.read(file, 2 * BLOCK, 0)
+    finally:
+        disk.close(file)
+    for place in (0, BLOCK):
+        sector = raw[place:place + SECTOR]
+        if len(sector) < SECTOR or sector == bytes(SECTOR):
+            continue  # it wasn't written yet
+        if not is_as_written(sector, seed, place // SECTOR):
+            raise Rotten(f"{name}: the sector at {place} isn't as it was written")
+        magic, _, of, number, synced = MARK.unpack_from(sector, 4)
+        if magic != MARK_MAGIC or of != generation:
+            raise Rotten(f"{name}: the sector at {place} isn't a mark of generation {generation}")
+        if synced > end:
+            raise LogBehind(f"{generation}.log ends at byte {end}, and checkpoint {number}, up to byte {synced}, was synced")
+
+
+class BaseReader:
+    """The text of a generation's base. Raises Rotten where it isn't there, and OSError."""
+
+    def __init__(self, disk: Disk, folder: Path, generation: int) -> None:
+        self.disk, self.generation, self.name = disk, generation, f"{generation}.base"
+        if self.name not in disk.names(folder):
+            raise Rotten(f"{self.name} isn't there")
+        self.file = disk.open_to_read(folder / self.name)
+
+    def close(self) -> None:
+        self.disk.close(self.file)
+
+    def pieces(self, wanted: str) -> Iterator[bytes]:
+        """Its text, piece by piece; the last one is given only where all are as they were written. `wanted` is the sum that the log's head
+        has. Raises Rotten."""
+        head, length = self.disk.read(self.file, BLOCK, 0), self.disk.size(self.file) - BLOCK
+        expected = BASE_HEAD.pack(BASE_MAGIC, 0, self.generation, max(0, length), bytes.fromhex(wanted))
+        if head != expected + bytes(BLOCK - BASE_HEAD.size):
+            raise Rotten(f"{self.name}: its head isn't as it was written")
+        found, place, kept = blake2b(digest_size=32), BLOCK, b""
+        while part := self.disk.read(self.file, PIECE, place):
+            found.update(part)
+            if kept:
+                yield kept
+            kept, place = part, place + len(part)
+        if found.hexdigest() != wanted:
+            raise Rotten(f"{self.name}: it isn't as it was written")
+        yield kept
+
+
+def newest(disk: Disk, folder: Path) -> Found | None:
+    """The log that counts: of those that aren't over, the one of the greatest generation, where no later log of its life is. None where
+    there is none. Raises Rotten, LogBehind, OSError."""
+    names, over = disk.names(folder), set()
+    check_no_lone_mark(disk, folder, names)
+    for generation in sorted((generation_of(name) for name in names if is_log(name)), reverse=True):
+        found = judged_log(disk, folder, generation)
+        if found is None or found.head.life in over:
+            continue
+        if not found.is_over:
+            return found
+        over.add(found.head.life)
+    return None
+
+
+def check_all(disk: Disk, folder: Path, found: Found) -> int:
+    """Reads all of a log that was judged, and of its base, and answers the bytes of the texts. Raises Rotten, OSError."""
+    total = 0
+    base, log = BaseReader(disk, folder, found.generation), LogReader(disk, folder, found.generation)
+    try:
+        for parts in (base.pieces(found.head.base), log.texts(found)):
+            total += sum(map(len, parts))
+    finally:
+        base.close()
+        log.close()
+    return total
+
+
+def is_log(name: str) -> bool:
+    return name.endswith(".log") and generation_of(name) is not None
+
+
+def check_no_lone_mark(disk: Disk, folder: Path, names: list[str]) -> None:
+    """A mark is made once its log's name is on the disk, and goes before it. Raises LogBehind where one is there without its log."""
+    for name in names:
+        generation = generation_of(name)
+        if generation is not None and name.endswith(".mark") and f"{generation}.log" not in names:
+            check_mark(disk, folder, generation, None)

@@ -1,0 +1,134 @@
+"""What is written to a log, in the order in which it may count. Each call may raise OSError, and then nothing more may be written."""
+import time
+from hashlib import blake2b
+from pathlib import Path
+
+from host.log.disk import Disk
+from host.log.format import (BASE_HEAD, BASE_MAGIC, BLOCK, FIRST, HEAD, HEADER, MAGIC, MARK, MARK_MAGIC, OVER, ROOM, SECTOR, TEXT, Head,
+                             chained, generation_of, seed_of, spelled, spelled_head)
+from host.log.reading import Found
+
+RESERVED = 4 << 20  # bytes of room that a log takes at a time, so that a full disk is known before a text comes
+
+
+class LogFile:
+    """A generation's log, open for more. What was written before `sync` began is on the disk when it returns."""
+
+    def __init__(self, disk: Disk, folder: Path, generation: int, session: str, file: int) -> None:
+        self.disk, self.folder, self.generation, self.session, self.file = disk, folder, generation, session, file
+        self.chain, self.end, self.number = FIRST, 0, 0
+        self.seed = seed_of(f"{generation}.log")
+        self.synced = self.reserved = 0
+        self.is_over = False
+
+    def put(self, kind: int, number: int, data: bytes) -> None:
+        when = time.time_ns() // 1_000_000
+        chain = chained(self.chain, kind, self.generation, number, when, self.synced, data)
+        body = HEADER.pack(MAGIC, kind, self.generation, number, when, len(data), self.synced, chain) + data
+        block = spelled(body, self.seed, self.end // SECTOR)
+        if kind != OVER:
+            self.reserve(len(block))
+        self.disk.write(self.file, block, self.end)
+        self.chain, self.end, self.number = chain, self.end + len(block), number
+
+    def reserve(self, count: int) -> None:
+        """Room for so many bytes, and for one block more: that the log is over can be written on a full disk too."""
+        wanted = count + BLOCK
+        if self.end + wanted > self.reserved:
+            size = max(wanted, RESERVED)
+            self.disk.allocate(self.file, self.end, size)
+            self.reserved = self.end + size
+
+    def append(self, number: int, text: bytes) -> None:
+        self.put(TEXT, number, text)
+
+    def over(self) -> None:
+        """Nothing of it is ever loaded again."""
+        if not self.is_over:
+            self.put(OVER, self.number, b"")
+            self.is_over = True
+
+    def sync(self) -> None:
+        end = self.end
+        self.disk.sync(self.file)
+        self.synced = end
+
+    def close(self) -> None:
+        self.disk.close(self.file)
+
+
+def begun(disk: Disk, folder: Path, generation: int, head: Head) -> LogFile:
+    """A new generation's log, with its head, on the disk, its name too. What it stands on must be on the disk."""
+    log = LogFile(disk, folder, generation, head.session, disk.create(folder / f"{generation}.log"))
+    log.put(HEAD, 0, spelled_head(head))
+    log.sync()
+    disk.sync_folder(folder)
+    return log
+
+
+def continued(disk: Disk, folder: Path, found: Found) -> LogFile:
+    """A log that was judged, to go on behind its end: what was torn goes first, so that it is never read again."""
+    log = LogFile(disk, folder, found.generation, found.head.session, disk.open(folder / f"{found.generation}.log"))
+    disk.cut(log.file, found.end)
+    log.chain, log.number = found.chain, found.number
+    log.end = log.synced = log.reserved = found.end
+    return log
+
+
+class BaseFile:
+    """The text of a generation's full checkpoint, piece by piece. It has its name once all of it is on the disk."""
+
+    def __init__(self, disk: Disk, folder: Path, generation: int) -> None:
+        self.disk, self.folder, self.generation = disk, folder, generation
+        self.path, self.beside = folder / f"{generation}.base", folder / f"{generation}.base.new"
+        self.file, self.sum, self.length = disk.create(self.beside), blake2b(digest_size=32), 0
+
+    def write(self, data: bytes) -> None:
+        self.disk.write(self.file, data, BLOCK + self.length)
+        self.sum.update(data)
+        self.length += len(data)
+
+    def finish(self) -> str:
+        """Puts it in place, and answers its sum."""
+        head = BASE_HEAD.pack(BASE_MAGIC, 0, self.generation, self.length, self.sum.digest())
+        self.disk.write(self.file, head + bytes(BLOCK - len(head)), 0)
+        self.disk.sync(self.file)
+        self.disk.close(self.file)
+        self.disk.rename(self.beside, self.path)
+        self.disk.sync_folder(self.folder)
+        return self.sum.hexdigest()
+
+    def discard(self) -> None:
+        self.disk.close(self.file)
+        self.disk.remove(self.beside)
+
+
+class Mark:
+    """A witness beside a log: up to where that was synced, in one of two blocks in turn, so that one of them is whole at any moment."""
+
+    def __init__(self, disk: Disk, folder: Path, generation: int) -> None:
+        self.disk, self.generation, self.turn = disk, generation, 0
+        name = f"{generation}.mark"
+        self.seed, is_there = seed_of(name), name in disk.names(folder)
+        self.file = (disk.open if is_there else disk.create)(folder / name)
+
+    def put(self, number: int, synced: int) -> None:
+        content = MARK.pack(MARK_MAGIC, 0, self.generation, number, synced)
+        place = self.turn * BLOCK
+        self.disk.write(self.file, spelled(content + bytes(ROOM - len(content)), self.seed, place // SECTOR)[:SECTOR], place)
+        self.disk.sync(self.file)
+        self.turn = 1 - self.turn
+
+    def close(self) -> None:
+        self.disk.close(self.file)
+
+
+def tidy(disk: Disk, folder: Path, generation: int) -> None:
+    """Removes what is of other generations. This one's base and the head of its log must be on the disk, their names too. Marks go first,
+    so that none is ever left without its log."""
+    others = [name for name in disk.names(folder) if generation_of(name) not in (None, generation)]
+    marks = [name for name in others if name.endswith(".mark")]
+    for names in (marks, [name for name in others if name not in marks]):
+        for name in names:
+            disk.remove(folder / name)
+        disk.sync_folder(folder)
