@@ -19,6 +19,8 @@ MOST_FRAMES = 32  # from the network, before the guest runs again
 VERSION = version()
 LONGEST_WAIT = 10.0  # seconds
 HEARD_AT_ONCE = 3  # acknowledgements that let nothing out
+LOOK_AGAIN = 0.5  # seconds, at a network with which something is wrong
+MEND_AGAIN = 1.0  # seconds: somebody else may undo it
 
 
 class Daemon:
@@ -37,7 +39,7 @@ class Daemon:
         self.control = Control(self, settings.control)
         self.scrapes = Scrapes(self, settings.metrics)
         self.served = [one for one in (self.control, self.scrapes) if one.listener]
-        self.network = network.network(settings)
+        self.network, self.looked_at, self.mended_at = network.network(settings), 0.0, 0.0
         self.node = Node(settings.node)
         self.live = self.standby = self.peer = self.life = self.shape = None
         self.instance = secrets.token_hex(8)
@@ -169,6 +171,7 @@ class Daemon:
     def run(self) -> None:
         try:
             self.signals.listen()
+            self.look_at_network(time.monotonic())
             while not self.is_over:
                 self.turn()
         except AtOnce:
@@ -202,6 +205,8 @@ class Daemon:
         self.link.turn(readable, writable, now, self.dials)
         if any(one in readable for one in frames):
             self.take_frames()
+        if self.network.changes in readable or self.network.wrong is not None and now >= self.looked_at + LOOK_AGAIN:
+            self.look_at_network(now)
         if self.live is not None:
             self.live.turn(now)
         if self.task is not None:
@@ -214,7 +219,7 @@ class Daemon:
         """Whether nothing is under way but epochs, which go over the link."""
         link = self.link
         return (link.is_up and not link.connection.waits_to_write and not link.strangers and link.tcp is None and self.task is None and
-                not any(one.clients or one.late for one in self.served))
+                self.network.wrong is None and not any(one.clients or one.late for one in self.served))
 
     def quiet_epochs(self, reading):
         """Epoch after epoch of a patient live host, until something comes or is to go out: so long what is looked at stays the same.
@@ -240,6 +245,8 @@ class Daemon:
                 until = due
         if (due := self.link.due(now, self.dials)) is not None and due < until:
             until = due
+        if self.network.wrong is not None:
+            until = min(until, self.looked_at + LOOK_AGAIN)
         return until - now if until > now else 0
 
     def take_frames(self):
@@ -250,6 +257,21 @@ class Daemon:
             self.live.arrive(came)
         else:
             self.counts.frames_dropped += len(came)
+
+    def look_at_network(self, now: float) -> None:
+        """Something of it has changed, or was wrong."""
+        before, self.looked_at = self.network.wrong, now
+        mended, wrong = self.network.look(now >= self.mended_at + MEND_AGAIN), self.network.wrong
+        if mended is not None:
+            self.mended_at = now
+            self.counts.networks_mended += 1
+            self.log.warning(f"{mended}: this host puts it right")
+        if wrong is not None and wrong != before:
+            self.log.error(f"the guest's network doesn't carry: {wrong}")
+        elif wrong is None and before is not None and mended is None:
+            self.log.info("the guest's network is as it should be again")
+        if wrong is None and (mended or before) and self.live is not None and not self.is_frozen:
+            self.network.put(network.announcement(self.settings.guest_address))
 
     def close(self):
         for one in (self.control, self.scrapes, self.network, self.node):

@@ -7,7 +7,7 @@ BUCKETS = (0.0005, 0.001, 0.002, 0.005, 0.01, 0.025, 0.05, 0.1, 0.25, 1.0)  # se
 class Counts:
     def __init__(self):
         self.epochs = self.checkpoint_bytes = self.checkpoint_pages = self.commits = 0
-        self.frames_in = self.frames_out = self.frames_dropped = 0
+        self.frames_in = self.frames_out = self.frames_dropped = self.networks_mended = 0
         self.paced = 0.0  # seconds
         self.steps = self.failovers = self.attachments = self.begun_again = self.links = self.dropped_messages = 0
         self.ack_counts, self.ack_sum = [0] * (len(BUCKETS) + 1), 0.0
@@ -47,6 +47,9 @@ def text(host):
     one("remus_frames_out_total", "counter", "Frames of the guest that were let out.", counts.frames_out)
     one("remus_frames_held", "gauge", "Frames that the last acknowledged checkpoint had held.", live.held if live else 0)
     one("remus_frames_lost_total", "counter", "Frames that the network didn't take.", host.network.lost)
+    one("remus_network_up", "gauge", "1 unless something is wrong with the tap or its bridge.", int(host.network.wrong is None))
+    one("remus_network_mended_total", "counter", "Times that the tap was made anew, put on its bridge again, or switched on again.",
+        counts.networks_mended)
     one("remus_frames_dropped_total", "counter", "Frames for the guest that had a wrong length.", counts.frames_dropped)
     one("remus_messages_dropped_total", "counter", "Messages of the link, and connections, that were dropped.", counts.dropped_messages)
     one("remus_steps_total", "counter", "Steps that the guest made here.", counts.steps)

@@ -1,17 +1,20 @@
 """The guest's network: a tap interface, packets of a Unix socket, or none. Frames to the guest are read by `frames`, those from it are
 written by `put`. It carries nothing but while the host is live."""
+import errno
 import fcntl
 import os
 import socket
 import struct
 
+from host.interfaces import Interfaces
+
 GUEST_MAC = bytes.fromhex("020000000001")
 LEAST, MOST = 14, 1514  # bytes of a frame
 ARP, EXPERIMENTAL = b"\x08\x06", b"\x88\xb5"
-SET_TAP, SET_ADDRESS = 0x400454CA, 0x8924
+SET_TAP, GET_TAP = 0x400454CA, 0x800454D2
 TAP, NO_HEAD = 2, 0x1000
 GET_FLAGS, SET_FLAGS, IS_UP = 0x8913, 0x8914, 1
-ADD_TO_BRIDGE, REMOVE_FROM_BRIDGE = 0x89A2, 0x89A3
+ADD_TO_BRIDGE = 0x89A2
 
 
 class Unusable(Exception):
@@ -28,7 +31,9 @@ def announcement(address):
 
 
 class Quiet:
-    """No network."""
+    """No network. `changes` can be read where something of it has changed, and is to be looked at; `wrong` is what then was wrong with it,
+    as a sentence, and stays so."""
+    changes = wrong = None
 
     def __init__(self):
         self.lost = 0
@@ -36,6 +41,10 @@ class Quiet:
     def watched(self):
         """What a wait is to look at."""
         return []
+
+    def look(self, may_mend: bool) -> str | None:
+        """Looks at whether it is as it should be. Answers what was wrong, and is put right."""
+        return None
 
     def up(self):
         pass
@@ -54,21 +63,37 @@ class Quiet:
 
 
 class Tap(Quiet):
-    """A tap interface, which is made where it isn't there, and put on a bridge where one is given. It is up while the host is live."""
+    """A tap interface, which is made where it isn't there, and put on a bridge where one is given. It is up while the host is live. `file`
+    is None while it is gone."""
 
-    def __init__(self, name, bridge):
+    def __init__(self, name: str, bridge: str | None) -> None:
         super().__init__()
-        self.name, self.is_up = name, False
+        self.name, self.bridge, self.is_up, self.file = name, bridge, False, None
+        try:
+            self.interfaces = Interfaces()
+        except OSError as error:
+            raise Unusable(f"interfaces can't be watched: {error.strerror}") from None
+        self.changes = self.interfaces.changes
+        self.is_made_here = self.interfaces.find(name) is None
         self.control = socket.socket(socket.AF_INET, socket.SOCK_DGRAM)
+        self.open()
+        self.join()
+
+    def open(self) -> None:
+        """Raises Unusable."""
         try:
             self.file = os.open("/dev/net/tun", os.O_RDWR | os.O_NONBLOCK)
-            fcntl.ioctl(self.file, SET_TAP, struct.pack("16sH22x", name.encode(), TAP | NO_HEAD))
+            fcntl.ioctl(self.file, SET_TAP, struct.pack("16sH22x", self.name.encode(), TAP | NO_HEAD))
         except OSError as error:
-            raise Unusable(f"the tap interface {name} can't be had ({error.strerror}): it takes root, and an interface that no other "
+            self.leave()
+            raise Unusable(f"the tap interface {self.name} can't be had ({error.strerror}): it takes root, and an interface that no other "
                            "program has") from None
         self.without_ipv6()
-        if bridge:
-            self.join(bridge)
+
+    def leave(self) -> None:
+        if self.file is not None:
+            os.close(self.file)
+        self.file = None
 
     def without_ipv6(self):
         """The host itself has no address on the tap, and sends nothing on it."""
@@ -78,15 +103,69 @@ class Tap(Quiet):
         except OSError:
             pass  # the machine has no IPv6, or doesn't let it be switched: its own frames then reach the guest
 
-    def join(self, bridge):
+    def join(self) -> None:
+        """Puts it on its bridge, if it has one. Raises Unusable."""
+        if self.bridge is None or self.is_on_bridge():
+            return
+        tap = self.interfaces.find(self.name)
         try:
-            index = struct.pack("16si20x", bridge.encode(), socket.if_nametoindex(self.name))
-            fcntl.ioctl(self.control, ADD_TO_BRIDGE, index)
+            fcntl.ioctl(self.control, ADD_TO_BRIDGE, struct.pack("16si20x", self.bridge.encode(), tap.index if tap else 0))
         except OSError as error:
-            on = f"/sys/class/net/{self.name}/brport/bridge"
-            if not os.path.exists(on) or os.path.basename(os.path.realpath(on)) != bridge:
-                raise Unusable(f"the tap interface {self.name} can't be put on {bridge} ({error.strerror}): is {bridge} a bridge, and the "
-                               "tap on no other one?") from None
+            raise Unusable(f"the tap interface {self.name} can't be put on {self.bridge} ({error.strerror}): is {self.bridge} a bridge, "
+                           "and the tap on no other one?") from None
+
+    def is_on_bridge(self) -> bool:
+        tap, bridge = self.interfaces.find(self.name), self.interfaces.find(self.bridge)
+        return tap is not None and bridge is not None and tap.master == bridge.index
+
+    # Whether it is as it should be.
+
+    def look(self, may_mend: bool) -> str | None:
+        self.interfaces.forget_changes()
+        found, mended = self.found(), None
+        if found is not None and may_mend:
+            self.mend()
+            if (left := self.found()) != found:
+                found, mended = left, found
+        self.wrong = found
+        return mended
+
+    def found(self) -> str | None:
+        """What is wrong with the tap or with its bridge, if anything is."""
+        tap = self.interfaces.find(self.name)
+        if tap is None or not self.is_attached():
+            return f"the tap interface {self.name} is gone"
+        if self.bridge is not None:
+            bridge = self.interfaces.find(self.bridge)
+            if bridge is None:
+                return f"the bridge {self.bridge} is gone"
+            if tap.master != bridge.index:
+                return f"the tap interface {self.name} isn't on the bridge {self.bridge}"
+            if not bridge.is_up:
+                return f"the bridge {self.bridge} is down"
+        return f"the tap interface {self.name} is down" if self.is_up and not tap.is_up else None
+
+    def is_attached(self) -> bool:
+        """Whether `file` is the tap of that name."""
+        try:
+            name = fcntl.ioctl(self.file, GET_TAP, bytes(40))[:16]
+        except (OSError, TypeError):
+            return False
+        return name.rstrip(b"\0") == self.name.encode()
+
+    def mend(self) -> None:
+        """Makes the tap anew, or takes the one that somebody else has made anew; has it on its bridge, and up. One that was there before
+        this daemon isn't made anew: whoever made it knows where it belongs."""
+        try:
+            if not self.is_attached():
+                self.leave()
+                if not self.is_made_here and self.interfaces.find(self.name) is None:
+                    return
+                self.open()
+            self.switch(self.is_up)
+            self.join()
+        except Unusable:
+            pass  # what is wrong is found again
 
     def switch(self, is_up):
         request = struct.pack("16sH22x", self.name.encode(), 0)
@@ -99,7 +178,7 @@ class Tap(Quiet):
         self.is_up = is_up
 
     def watched(self):
-        return [self.file] if self.is_up else []
+        return [self.file, self.changes] if self.is_up and self.file is not None else [self.changes]
 
     def up(self):
         self.frames(1 << 20)  # what lay there is of another time
@@ -111,20 +190,21 @@ class Tap(Quiet):
     def frames(self, most):
         came = []
         try:
-            while len(came) < most:
+            while self.file is not None and len(came) < most:
                 came.append(os.read(self.file, 2048))
-        except OSError:
-            pass  # there is no more, or the interface is down
+        except OSError as error:
+            if error.errno == errno.EBADFD:
+                self.leave()  # the interface was deleted
         return came
 
     def put(self, frame):
         try:
             os.write(self.file, frame)
-        except OSError:
-            self.lost += 1  # the interface is down or full
+        except (OSError, TypeError):
+            self.lost += 1  # the interface is down, full or gone
 
     def close(self):
-        os.close(self.file)
+        self.leave()
         self.control.close()
 
 

@@ -53,6 +53,11 @@ class Verbs:
         return {"ok": True, "did": sentence, "role": host.role, "mode": self.mode(), "life": host.life,
                 "generation": host.generation} | more
 
+    def lives(self, sentence: str) -> dict:
+        """What was done, and what is wrong with the network of a host that is live by it."""
+        wrong = self.host.network.wrong
+        return self.did(sentence if wrong is None else f"{sentence}, but the guest's network doesn't carry: {wrong}")
+
     def mode(self):
         return self.host.live.mode if self.host.live else None
 
@@ -69,7 +74,7 @@ class Verbs:
         if source is not None and boot or not boot and (new or disk is not None):
             return refusal("Malformed", "promote takes boot, with new and disk or without them, or from, or nothing")
         if host.role == "live" and not (source or disk or new):
-            return self.did("this host is live already")
+            return self.lives("this host is live already")
         if boot or source is not None:
             return self.begin(new, source, disk)
         if host.role == "frozen":
@@ -78,7 +83,7 @@ class Verbs:
             return refusal("NoCheckpoint", "no full checkpoint of the guest is here")
         else:
             host.go_live(now)
-        return self.did("this host is live")
+        return self.lives("this host is live")
 
     def begin(self, new, source, disk):
         """A new life, booted, over a snapshot's disk where one is given, or from a snapshot."""
@@ -90,7 +95,7 @@ class Verbs:
         if source is None and host.state.booted_before and not new:
             return refusal("BootedBefore", "a guest was booted or held here before; 'new' boots another one all the same")
         try:
-            return self.did(self.begun(source, disk))
+            return self.lives(self.begun(source, disk))
         except (OSError, NotASnapshot) as error:
             return refusal("File", f"{source or disk or host.settings.state}: {getattr(error, 'strerror', None) or error}")
 
@@ -191,5 +196,6 @@ def status(host):
                  "successor": live.successor if live else None},
         "steps": live.steps if live else standby.steps() if standby else 0,
         "late_ms": round(live.late * 1000) if live else 0, "held": live.held if live else 0,
-        "dead": live.watch.found if live else None, "name": host.settings.name, "uptime_ms": since(host.begun), "version": host.version,
+        "dead": live.watch.found if live else None, "network_error": host.network.wrong, "name": host.settings.name,
+        "uptime_ms": since(host.begun), "version": host.version,
     }

@@ -159,6 +159,7 @@ class Pair:
             status = self.daemon.running()
         self.name_life(status)
         self.watch_standby(status)
+        self.watch_network(status)
         return PROMOTED
 
     def name_life(self, status: dict) -> None:
@@ -187,6 +188,16 @@ class Pair:
         elif os.path.exists(self.asked):
             self.cluster.keep()
             os.unlink(self.asked)
+
+    @staticmethod
+    def watch_network(status: dict) -> None:
+        """A live host whose tap or bridge is gone fails where its standby can go on. One that is alone has the only guest: that isn't
+        stopped for a network that may come back."""
+        error = status.get("network_error")
+        if error and status["mode"] == "paired":
+            raise Failure(GENERIC, f"the guest's network doesn't carry: {error}")
+        if error:
+            warn(f"the guest's network doesn't carry: {error}. Nobody else has the guest")
 
     # Promote and demote.
 
