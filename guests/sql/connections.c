@@ -32,7 +32,7 @@ static void send(struct session *session) {
 
 /* Lets the client send more, unless it is to wait. */
 static void let_send(struct session *session) {
-    while (session->owed > 0 && !session->is_waiting) {
+    while (session->owed > 0 && !session->is_waiting && !session->is_held) {
         u16_t count = (u16_t)LWIP_MIN(session->owed, MOST_AT_ONCE);
         tcp_recved(session->connection, count);
         session->owed -= count;
@@ -47,7 +47,7 @@ static err_t end(struct session *session) {
     tcp_sent(connection, NULL);
     tcp_poll(connection, NULL, 0);
     tcp_err(connection, NULL);
-    session->is_waiting = 0;
+    session->is_waiting = session->is_held = 0;
     let_send(session);
     session_drop(session);
     if (tcp_close(connection) == ERR_OK)
@@ -58,7 +58,9 @@ static err_t end(struct session *session) {
 
 /* Sends what there is to say, and ends the session where it is to end. */
 static err_t go_on(struct session *session) {
-    send(session);
+    do
+        send(session);
+    while (session_resume(session));
     if (session->is_ending && session->out.length == 0)
         return end(session);
     let_send(session);

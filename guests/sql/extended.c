@@ -14,6 +14,7 @@ struct prepared {
     char *text;
     struct statement statement;
     sqlite3_stmt *compiled; /* or NULL, where nothing runs */
+    int columns;     /* that it had when it was prepared, which are all that a portal and `told` have room for */
     int parameters;
     uint32_t *types; /* of the parameters; 0: none was named */
     uint32_t *told;  /* the columns' types that the client was told last, or NULL */
@@ -41,7 +42,7 @@ static enum outcome refuse(struct failure *failure, const char *code, const char
 
 static enum outcome no_memory(struct failure *failure) { return refuse(failure, "53200", "out of memory"); }
 
-static enum outcome too_short(struct failure *failure) { return refuse(failure, "08P01", "a message is not as the protocol has it"); }
+static enum outcome malformed(struct failure *failure) { return refuse(failure, "08P01", "a message is not as the protocol has it"); }
 
 static void *allocate(uint64_t count) {
     void *memory = sqlite3_malloc64(count + 1);
@@ -49,6 +50,11 @@ static void *allocate(uint64_t count) {
         memset(memory, 0, count + 1);
     return memory;
 }
+
+/* SQLite compiles a statement anew where tables have changed. */
+static int has_changed(const struct prepared *prepared) { return sqlite3_column_count(prepared->compiled) != prepared->columns; }
+
+static enum outcome other_columns(struct failure *failure) { return refuse(failure, "0A000", "cached plan must not change result type"); }
 
 /* Lists by name. */
 
@@ -100,7 +106,7 @@ static void free_statement(struct prepared *prepared) {
     sqlite3_free(prepared);
 }
 
-void forget_statement(struct extended *extended, const char *name) {
+static void forget_statement(struct extended *extended, const char *name) {
     for (struct prepared **place = &extended->statements; *place != NULL; place = &(*place)->next)
         if (strcmp((*place)->name, name) == 0) {
             struct prepared *prepared = *place;
@@ -109,6 +115,11 @@ void forget_statement(struct extended *extended, const char *name) {
             free_statement(prepared);
             return;
         }
+}
+
+void forget_unnamed(struct extended *extended) {
+    forget_statement(extended, "");
+    forget_portals_of(extended, "", NULL);
 }
 
 void forget_all(struct extended *extended) {
@@ -145,6 +156,7 @@ static enum outcome compile(struct session *session, struct prepared *prepared, 
     if (!is_blank(rest))
         return refuse(failure, "42601", "cannot insert multiple commands into a prepared statement");
     int given = (int)read_16(reader);
+    prepared->columns = sqlite3_column_count(prepared->compiled);
     prepared->parameters = parameters_of(prepared->compiled);
     prepared->parameters = prepared->parameters > given ? prepared->parameters : given;
     if (prepared->parameters > MOST_PARAMETERS)
@@ -154,14 +166,16 @@ static enum outcome compile(struct session *session, struct prepared *prepared, 
         return no_memory(failure);
     for (int i = 0; i < given; i++)
         prepared->types[i] = read_32(reader);
-    return reader->is_short ? too_short(failure) : ENDED;
+    return is_at_end(reader) ? ENDED : malformed(failure);
 }
 
 enum outcome take_parse(struct session *session, struct extended *extended, struct reader *reader, struct failure *failure) {
     const char *name = read_string(reader), *text = read_string(reader);
     struct statement statement;
     if (reader->is_short)
-        return too_short(failure);
+        return malformed(failure);
+    if (!is_utf8(text, (uint32_t)strlen(text)))
+        return refuse(failure, "22021", NOT_UTF8);
     if (!session_open(session))
         return no_memory(failure);
     read_statement(text, &statement);
@@ -208,22 +222,21 @@ static enum outcome read_values(struct portal *portal, struct reader *reader, st
     struct prepared *of = portal->of;
     uint8_t formats[MOST_PARAMETERS] = {0};
     if (!read_formats(reader, formats, of->parameters))
-        return too_short(failure);
+        return malformed(failure);
     if ((int)read_16(reader) != of->parameters)
         return refuse(failure, "08P01", "a statement needs another number of values");
     for (int i = 0; i < of->parameters; i++) {
-        uint32_t count = read_32(reader);
-        int is_null = count == 0xffffffff;
-        const uint8_t *bytes = is_null ? NULL : read_bytes_of(reader, count);
-        portal->values[i] = (struct value){of->types[i], formats[i], bytes, is_null ? 0 : count};
+        uint32_t count;
+        const uint8_t *bytes = read_value(reader, &count);
+        portal->values[i] = (struct value){of->types[i], formats[i], bytes, count};
     }
-    return reader->is_short ? too_short(failure) : ENDED;
+    return reader->is_short ? malformed(failure) : ENDED;
 }
 
 /* Copies what is left of the message, and reads it there. */
 static enum outcome fill_portal(struct portal *portal, struct reader *reader, struct failure *failure) {
     uint32_t count = (uint32_t)(reader->end - reader->at);
-    int columns = sqlite3_column_count(portal->of->compiled);
+    int columns = portal->of->columns;
     portal->message = allocate(count);
     portal->values = allocate((uint64_t)portal->of->parameters * sizeof *portal->values);
     portal->binary = allocate((uint64_t)columns);
@@ -232,8 +245,8 @@ static enum outcome fill_portal(struct portal *portal, struct reader *reader, st
     memcpy(portal->message, reader->at, count);
     struct reader copied = {portal->message, portal->message + count, 0};
     enum outcome outcome = read_values(portal, &copied, failure);
-    if (outcome == ENDED && !read_formats(&copied, portal->binary, columns))
-        return too_short(failure);
+    if (outcome == ENDED && !(read_formats(&copied, portal->binary, columns) && is_at_end(&copied)))
+        return malformed(failure);
     return outcome;
 }
 
@@ -241,7 +254,7 @@ enum outcome take_bind(struct session *session, struct extended *extended, struc
     const char *name = read_string(reader), *statement = read_string(reader);
     struct prepared *of = statement_of(extended, statement);
     if (reader->is_short)
-        return too_short(failure);
+        return malformed(failure);
     if (of == NULL)
         return refuse(failure, "26000", "there is no prepared statement of this name");
     if (strlen(name) >= MOST_NAME)
@@ -279,7 +292,8 @@ static enum outcome bind_values(struct portal *portal, struct failure *failure) 
     for (int place = 1; place <= sqlite3_bind_parameter_count(compiled); place++) {
         const char *code = bind_value(compiled, place, &portal->values[number_of_place(compiled, place) - 1]);
         if (code != NULL)
-            return refuse(failure, code, "a parameter's value is not of its type, or of one that is not read here");
+            return refuse(failure, code, strcmp(code, "22021") == 0 ? NOT_UTF8
+                                                                    : "a parameter's value is not of its type, or of one that is not read here");
     }
     return ENDED;
 }
@@ -293,6 +307,8 @@ static enum outcome run_compiled(struct session *session, struct extended *exten
     int is_safe = sqlite3_stmt_readonly(of->compiled) || sqlite3_column_count(of->compiled) == 0;
     if (bind_values(portal, failure) != ENDED)
         return FAILED;
+    if (has_changed(of))
+        return other_columns(failure);
     if (is_plain && !(extended->is_alone && is_safe) && begin_implicit(session, 0) != ENDED)
         return WAITS;
     columns_drop(&portal->columns);
@@ -302,7 +318,7 @@ static enum outcome run_compiled(struct session *session, struct extended *exten
     if (outcome == COLLIDES)
         return refuse(failure, "40001", "another client's transaction came between the statements of this one");
     if (outcome == FAILED && portal->columns.is_changed)
-        return refuse(failure, "0A000", "cached plan must not change result type");
+        return other_columns(failure);
     if (outcome != ENDED)
         return outcome;
     if (portal->columns.is_mixed)
@@ -318,10 +334,10 @@ static enum outcome run_portal(struct session *session, struct extended *extende
                                struct failure *failure) {
     struct statement *statement = &portal->statement;
     struct failure warning;
-    if (portal->is_run)
-        return ENDED;
     if (!is_let_in(session, statement->kind))
         return refuse(failure, "25P02", "current transaction is aborted, commands ignored until end of transaction block");
+    if (portal->is_run)
+        return ENDED;
     portal->is_run = is_noted(session, statement, &warning);
     if (warning.code != NULL)
         say_warning(&session->out, warning.code, warning.why);
@@ -348,11 +364,13 @@ static void say_types(struct text *out, const struct prepared *prepared) {
 
 /* Tells the columns, and keeps what was told. `columns` is NULL where there are no rows yet. */
 static enum outcome tell_columns(struct text *out, struct prepared *prepared, const struct columns *columns, struct failure *failure) {
-    int count = sqlite3_column_count(prepared->compiled);
+    int count = prepared->columns;
     if (count == 0) {
         say_empty(out, 'n');
         return ENDED;
     }
+    if (has_changed(prepared))
+        return other_columns(failure);
     uint32_t *told = allocate((uint64_t)count * sizeof *told);
     if (told == NULL)
         return no_memory(failure);
@@ -366,7 +384,7 @@ static enum outcome tell_columns(struct text *out, struct prepared *prepared, co
 
 static enum outcome describe_portal(struct session *session, struct extended *extended, struct portal *portal, struct failure *failure) {
     sqlite3_stmt *compiled = portal->of->compiled;
-    if (compiled == NULL || sqlite3_column_count(compiled) == 0)
+    if (compiled == NULL || portal->of->columns == 0 || has_changed(portal->of))
         return tell_columns(&session->out, portal->of, NULL, failure);
     if (sqlite3_stmt_readonly(compiled)) {
         enum outcome outcome = run_portal(session, extended, portal, NULL, failure);
@@ -376,7 +394,7 @@ static enum outcome describe_portal(struct session *session, struct extended *ex
         columns_start(&portal->columns, compiled, portal->binary, NULL);
     }
     portal->columns.told = NULL;
-    if (portal->columns.seen.length < (uint32_t)sqlite3_column_count(compiled))
+    if (portal->columns.seen.length < (uint32_t)portal->of->columns)
         return no_memory(failure);
     return tell_columns(&session->out, portal->of, &portal->columns, failure);
 }
@@ -384,8 +402,8 @@ static enum outcome describe_portal(struct session *session, struct extended *ex
 enum outcome take_describe(struct session *session, struct extended *extended, struct reader *reader, struct failure *failure) {
     const uint8_t *kind = read_bytes_of(reader, 1);
     const char *name = read_string(reader);
-    if (reader->is_short || (*kind != 'S' && *kind != 'P'))
-        return too_short(failure);
+    if (!is_at_end(reader) || (*kind != 'S' && *kind != 'P'))
+        return malformed(failure);
     if (*kind == 'S') {
         struct prepared *prepared = statement_of(extended, name);
         if (prepared == NULL)
@@ -422,18 +440,24 @@ static void tell_end(struct session *session, struct extended *extended, struct 
         say_empty(&session->out, 'I');
     else
         say_complete(&session->out, statement->tag, statement->is_counted, portal->count);
+    forget_after(session, extended, statement);
+}
+
+void forget_after(struct session *session, struct extended *extended, const struct statement *statement) {
     if (statement->kind == DISCARD)
         forget_all(extended);
     else if (statement->kind == DEALLOCATE)
         forget_statement(extended, statement->name);
+    else if ((statement->kind == COMMIT || statement->kind == ROLLBACK) && !is_in_block(session))
+        forget_portals(extended);
 }
 
 enum outcome take_execute(struct session *session, struct extended *extended, struct reader *reader, struct failure *failure) {
     const char *name = read_string(reader);
     uint32_t most = read_32(reader);
     struct portal *portal = portal_of(extended, name);
-    if (reader->is_short)
-        return too_short(failure);
+    if (!is_at_end(reader))
+        return malformed(failure);
     if (portal == NULL)
         return refuse(failure, "34000", "there is no portal of this name");
     enum outcome outcome = run_portal(session, extended, portal, portal->of->told, failure);
@@ -451,12 +475,14 @@ enum outcome take_execute(struct session *session, struct extended *extended, st
     return no_memory(failure);
 }
 
-enum outcome take_close(struct extended *extended, struct reader *reader, struct session *session) {
+enum outcome take_close(struct session *session, struct extended *extended, struct reader *reader, struct failure *failure) {
     const uint8_t *kind = read_bytes_of(reader, 1);
     const char *name = read_string(reader);
-    if (!reader->is_short && *kind == 'S')
+    if (!is_at_end(reader) || (*kind != 'S' && *kind != 'P'))
+        return malformed(failure);
+    if (*kind == 'S')
         forget_statement(extended, name);
-    else if (!reader->is_short)
+    else
         forget_portals_of(extended, name, NULL);
     say_empty(&session->out, '3');
     return ENDED;

@@ -23,14 +23,17 @@ enum outcome take_parse(struct session *session, struct extended *extended, stru
 enum outcome take_bind(struct session *session, struct extended *extended, struct reader *reader, struct failure *failure);
 enum outcome take_describe(struct session *session, struct extended *extended, struct reader *reader, struct failure *failure);
 enum outcome take_execute(struct session *session, struct extended *extended, struct reader *reader, struct failure *failure);
-enum outcome take_close(struct extended *extended, struct reader *reader, struct session *session);
+enum outcome take_close(struct session *session, struct extended *extended, struct reader *reader, struct failure *failure);
 
 /* The protocol's: what a session has of this. */
 struct extended *extended_of(struct session *session);
 
-/* Forgets portals, a prepared statement of this name, or all of both. */
+/* Forgets portals, the statement and the portal without a name, or all prepared statements and portals. */
 void forget_portals(struct extended *extended);
-void forget_statement(struct extended *extended, const char *name);
+void forget_unnamed(struct extended *extended);
 void forget_all(struct extended *extended);
+
+/* Forgets what a statement has ended that was run: portals, by the end of their transaction, and what it names. */
+void forget_after(struct session *session, struct extended *extended, const struct statement *statement);
 
 #endif

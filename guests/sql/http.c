@@ -279,14 +279,9 @@ static void end_of_input(struct session *session) {
     session->is_ending |= !session->is_waiting;
 }
 
-static uint32_t most_quiet(struct session *session) {
-    (void)session;
-    return MOST_QUIET;
-}
-
 static void drop(struct session *session) {
     query_drop(&of(session)->query);
     text_drop(&of(session)->body);
 }
 
-const struct service http = {80, sizeof(struct browser), take, go_on, end_of_input, most_quiet, drop};
+const struct service http = {80, sizeof(struct browser), MOST_QUIET, take, go_on, end_of_input, drop};

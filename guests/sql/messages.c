@@ -9,6 +9,20 @@ void put_32(uint8_t *at, uint32_t value) {
 
 uint32_t get_32(const uint8_t *at) { return (uint32_t)at[0] << 24 | (uint32_t)at[1] << 16 | (uint32_t)at[2] << 8 | at[3]; }
 
+uint32_t length_at(const uint8_t *at, uint32_t least, uint32_t most) {
+    uint32_t length = get_32(at);
+    return length < least || length > most ? NO_LENGTH : length;
+}
+
+uint32_t message_length(const uint8_t *bytes, uint32_t count, uint32_t type, uint32_t least, uint32_t most) {
+    if (count < type + 4)
+        return 0;
+    uint32_t length = length_at(bytes + type, least, most);
+    if (length == NO_LENGTH)
+        return NO_LENGTH;
+    return count - type < length ? 0 : type + length;
+}
+
 void add_16(struct text *text, uint32_t value) { add_bytes(text, (uint8_t[]){(uint8_t)(value >> 8), (uint8_t)value}, 2); }
 
 void add_32(struct text *text, uint32_t value) {
@@ -115,3 +129,19 @@ const char *read_string(struct reader *reader) {
     reader->at = end + 1;
     return (const char *)begin;
 }
+
+const uint8_t *read_value(struct reader *reader, uint32_t *count) {
+    const uint8_t *at = read_bytes_of(reader, 4);
+    *count = 0;
+    if (at == NULL || get_32(at) == UINT32_MAX)
+        return NULL;
+    uint32_t length = length_at(at, 0, (uint32_t)(reader->end - reader->at));
+    if (length == NO_LENGTH) {
+        reader->is_short = 1;
+        return NULL;
+    }
+    *count = length;
+    return read_bytes_of(reader, length);
+}
+
+int is_at_end(const struct reader *reader) { return !reader->is_short && reader->at == reader->end; }

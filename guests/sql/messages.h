@@ -29,6 +29,14 @@ void say_complete(struct text *out, const char *tag, int is_counted, int64_t cou
 void say_error(struct text *out, const char *severity, const char *code, const char *why);
 void say_warning(struct text *out, const char *code, const char *why);
 
+/* A length that a client says, in 4 bytes: each is read by this. NO_LENGTH where it is less than `least` or more than `most`. */
+#define NO_LENGTH UINT32_MAX
+uint32_t length_at(const uint8_t *at, uint32_t least, uint32_t most);
+
+/* How many bytes the first of these messages has; 0 where it hasn't come whole, NO_LENGTH where its length can't be. Before the length, which
+   counts itself and is from `least` to `most`, stand so many bytes of its type: 1, or 0 in a connection's first message. */
+uint32_t message_length(const uint8_t *bytes, uint32_t count, uint32_t type, uint32_t least, uint32_t most);
+
 /* A message from the client as it is read, part by part. Where it is too short `is_short` is set, and what is read is 0 or empty. */
 struct reader {
     const uint8_t *at, *end;
@@ -39,5 +47,11 @@ uint32_t read_16(struct reader *reader);
 uint32_t read_32(struct reader *reader);
 const char *read_string(struct reader *reader);
 const uint8_t *read_bytes_of(struct reader *reader, uint32_t count);
+
+/* A length and so many bytes, or NULL where the length is -1, which stands for no value. */
+const uint8_t *read_value(struct reader *reader, uint32_t *count);
+
+/* Whether all of the message was read, and nothing is behind it. */
+int is_at_end(const struct reader *reader);
 
 #endif

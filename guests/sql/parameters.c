@@ -90,6 +90,8 @@ static const char *bind_hex(sqlite3_stmt *prepared, int place, const struct valu
 }
 
 static const char *bind_bytes(sqlite3_stmt *prepared, int place, const struct value *value) {
+    if (!is_utf8((const char *)value->bytes, value->count))
+        return "22021";
     return said(sqlite3_bind_text(prepared, place, (const char *)value->bytes, (int)value->count, SQLITE_TRANSIENT));
 }
 

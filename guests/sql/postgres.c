@@ -19,8 +19,9 @@
 /* Kinds of authentication messages. */
 enum { IS_IN = 0, ASKS_SASL = 10, GOES_ON_SASL = 11, ENDS_SASL = 12 };
 
-/* Who isn't in after so many milliseconds is let go. */
-#define MOST_TO_START 60000
+/* The most bytes of what a connection begins with, and of what proves the password: nobody knows yet who says it. */
+#define MOST_START 10000
+#define MOST_PROOF 4096
 
 struct client {
     struct session session;
@@ -81,10 +82,7 @@ static void has_ended_query(struct session *session, const struct statement *sta
         text_cut(&session->out, begun);
         session->is_ending = 1;
     }
-    if (statement->kind == DISCARD)
-        forget_all(&client->extended);
-    else if (statement->kind == DEALLOCATE)
-        forget_statement(&client->extended, statement->name);
+    forget_after(session, &client->extended, statement);
 }
 
 static void has_warned(struct session *session, const struct failure *warning) { say_warning(&session->out, warning->code, warning->why); }
@@ -102,21 +100,32 @@ static void is_over(struct session *session) {
 
 static const struct teller teller = {take_row, has_ended_query, has_warned, has_failed_query, is_over};
 
+static void ask(struct client *client, const char *text, uint32_t length) {
+    client->query.teller = &teller;
+    client->query.answer = &client->session.out;
+    query_start(&client->session, &client->query, text, length);
+}
+
+static void refuse_query(struct session *session, const char *code, const char *why) {
+    session->was_block = is_in_block(session);
+    has_failed(session, NOTHING);
+    say_error(&session->out, "ERROR", code, why);
+    say_ready(session);
+}
+
 static void take_query(struct client *client, const char *text, uint32_t length) {
     struct session *session = &client->session;
-    if (length == 0 || text[length - 1] != '\0') {
-        end_with(session, "08P01", "a query has no end");
-        return;
-    }
-    forget_statement(&client->extended, "");
-    if (is_blank(text)) {
+    forget_unnamed(&client->extended);
+    if (length == 0 || memchr(text, '\0', length) != text + length - 1) {
+        refuse_query(session, "08P01", "a query has one zero, at its end");
+    } else if (!is_utf8(text, length - 1)) {
+        refuse_query(session, "22021", NOT_UTF8);
+    } else if (is_blank(text)) {
         say_empty(&session->out, 'I');
         say_ready(session);
-        return;
+    } else {
+        ask(client, text, length - 1);
     }
-    client->query.teller = &teller;
-    client->query.answer = &session->out;
-    query_start(session, &client->query, text, length - 1);
 }
 
 /* The beginning. */
@@ -137,6 +146,7 @@ static void let_in(struct client *client) {
     add_32(out, client->key);
     message_end(out, at);
     client->stage = IS_READY;
+    client->session.is_known = 1;
     say_ready(&client->session);
 }
 
@@ -169,18 +179,27 @@ static uint32_t make_key(uint32_t number) {
     return get_32(digest);
 }
 
+/* Names and values, and an empty name. Answers whether they are that. */
+static int read_parameters(struct reader *reader) {
+    while (read_string(reader)[0] != '\0')
+        read_string(reader);
+    return is_at_end(reader);
+}
+
 /* Takes in the first messages, which have no type. */
 static void take_start(struct client *client, const uint8_t *message, uint32_t length) {
     struct session *session = &client->session;
-    uint32_t asked = length < 8 ? 0 : get_32(message + 4);
+    uint32_t asked = get_32(message + 4);
     if (asked == ASKS_FOR_TLS || asked == ASKS_FOR_GSS) {
         add_bytes(&session->out, "N", 1);
     } else if (asked == ASKS_TO_CANCEL) {
         session->is_ending = 1;
-        if (length >= 16)
+        if (length == 16)
             cancel(get_32(message + 8), get_32(message + 12));
     } else if (asked >> 16 != VERSION_3 >> 16) {
         end_with(session, "0A000", "version 3.0 of the protocol alone is spoken here");
+    } else if (!read_parameters(&(struct reader){message + 8, message + length, 0})) {
+        end_with(session, "08P01", "what the connection begins with is not as the protocol has it");
     } else {
         client->key = make_key(session->number);
         if (password.is_set) {
@@ -198,10 +217,9 @@ static void take_proof(struct client *client, struct reader *reader) {
     struct text answer = {.most = 4096};
     int is_good;
     if (client->stage == SAYS_WHO) {
-        const char *mechanism = read_string(reader);
-        uint32_t length = read_32(reader);
-        const char *message = (const char *)read_bytes_of(reader, length);
-        is_good = message != NULL && strcmp(mechanism, "SCRAM-SHA-256") == 0
+        uint32_t length;
+        const char *mechanism = read_string(reader), *message = (const char *)read_value(reader, &length);
+        is_good = is_at_end(reader) && message != NULL && strcmp(mechanism, "SCRAM-SHA-256") == 0
                   && scram_begin(&client->scram, message, length, session->number, &answer);
     } else {
         is_good = scram_end(&client->scram, (const char *)reader->at, (uint32_t)(reader->end - reader->at), &answer);
@@ -242,7 +260,7 @@ static enum outcome take_extended(struct client *client, uint8_t type, struct re
     case 'B': return take_bind(session, &client->extended, reader, failure);
     case 'D': return take_describe(session, &client->extended, reader, failure);
     case 'E': return take_execute(session, &client->extended, reader, failure);
-    case 'C': return take_close(&client->extended, reader, session);
+    case 'C': return take_close(session, &client->extended, reader, failure);
     case 'H': return ENDED;
     case 'd':
     case 'c':
@@ -283,43 +301,61 @@ static int take_message(struct client *client, const uint8_t *message, uint32_t 
     return outcome == WAITS;
 }
 
-/* Whether no message up to the client's next Sync executes a second statement, as far as they have come. */
-static int is_alone(const uint8_t *message, uint32_t left) {
-    int executed = 0;
-    while (left >= 5) {
-        uint32_t length = 1 + get_32(message + 1);
+/* What is seen ahead in messages that have come: whether those up to a place belong to the one statement that is executed until the client's
+   next Sync. */
+struct ahead {
+    uint32_t until;
+    int is_alone;
+};
+
+static struct ahead look_ahead(const struct text *in, uint32_t from) {
+    uint32_t executed = 0; /* where the first message that executes ends */
+    for (uint32_t at = from;;) {
+        const uint8_t *message = (const uint8_t *)in->bytes + at;
+        uint32_t length = message_length(message, in->length - at, 1, 4, MOST_ASKED);
+        if (length == 0 || length == NO_LENGTH)
+            return (struct ahead){in->length, 0};
+        at += length;
         if (message[0] == 'S')
-            return 1;
-        if (length > left || (executed += message[0] == 'E') > 1)
-            return 0;
-        message += length;
-        left -= length;
+            return (struct ahead){at, 1};
+        if (message[0] == 'E' && executed > 0)
+            return (struct ahead){executed, 0};
+        if (message[0] == 'E')
+            executed = at;
     }
-    return 0;
 }
 
-/* Takes in whole messages, as long as it doesn't wait. */
+/* The length of the next message at the stage at which the client is, as `message_length` has it. */
+static uint32_t next_length(const struct client *client, const uint8_t *bytes, uint32_t count) {
+    switch (client->stage) {
+    case STARTS: return message_length(bytes, count, 0, 8, MOST_START);
+    case SAYS_WHO:
+    case PROVES: return message_length(bytes, count, 1, 4, MOST_PROOF);
+    default: return message_length(bytes, count, 1, 4, MOST_ASKED);
+    }
+}
+
+/* Takes in whole messages, as long as it doesn't wait and the answers have room. */
 static void take(struct session *session) {
     struct client *client = of(session);
+    struct ahead ahead = {0, 0};
     uint32_t done = 0;
-    while (!session->is_ending && !session->is_waiting) {
+    while (!session->is_ending && !session->is_waiting && session_has_room(session)) {
         const uint8_t *message = (const uint8_t *)session->in.bytes + done;
-        uint32_t head = client->stage == STARTS ? 0 : 1, left = session->in.length - done;
-        if (left < head + 4)
+        uint32_t length = next_length(client, message, session->in.length - done);
+        if (length == NO_LENGTH)
+            end_with(session, "08P01", "a message has more than 262144 bytes, or a length that the protocol doesn't have there");
+        if (length == 0 || length == NO_LENGTH)
             break;
-        uint32_t length = get_32(message + head);
-        if (length < 4 || length > MOST_ASKED) {
-            end_with(session, "08P01", "a message has more than 262144 bytes, or is not as the protocol has it");
-            break;
-        }
-        length += head;
-        if (left < length)
-            break;
-        client->extended.is_alone = head == 1 && is_alone(message, left);
-        if (head == 0)
+        if (client->stage == STARTS) {
             take_start(client, message, length);
-        else if (take_message(client, message, length))
-            break;
+        } else {
+            if (client->stage == IS_READY && ahead.until <= done)
+                ahead = look_ahead(&session->in, done);
+            client->extended.is_alone = ahead.is_alone;
+            if (take_message(client, message, length))
+                break;
+        }
         done += length;
     }
     text_shift(&session->in, done);
@@ -339,8 +375,6 @@ static void end_of_input(struct session *session) {
     session->out.length = session->sent;
 }
 
-static uint32_t most_quiet(struct session *session) { return of(session)->stage == IS_READY ? 0 : MOST_TO_START; }
-
 static void drop(struct session *session) {
     struct client *client = of(session);
     query_drop(&client->query);
@@ -349,4 +383,4 @@ static void drop(struct session *session) {
     scram_drop(&client->scram);
 }
 
-const struct service postgres = {5432, sizeof(struct client), take, go_on, end_of_input, most_quiet, drop};
+const struct service postgres = {5432, sizeof(struct client), 0, take, go_on, end_of_input, drop};

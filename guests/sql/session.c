@@ -25,7 +25,7 @@ struct session *session_start(const struct service *service, void *connection) {
     if (session == NULL)
         return NULL;
     memset(session, 0, service->size);
-    if (!text_start(&session->in, MOST_ASKED + MOST_AHEAD) || !text_start(&session->out, MOST_ANSWER + SPARE)) {
+    if (!text_start(&session->in, MOST_ASKED + MOST_AHEAD) || !text_start(&session->out, MOST_UNSENT + MOST_ANSWER + SPARE)) {
         text_drop(&session->in);
         sqlite3_free(session);
         return NULL;
@@ -33,7 +33,7 @@ struct session *session_start(const struct service *service, void *connection) {
     session->service = service;
     session->connection = connection;
     session->number = ++number;
-    session->heard = clock_now();
+    session->began = session->heard = clock_now();
     session->next = sessions;
     sessions = session;
     return session;
@@ -63,6 +63,19 @@ void session_take(struct session *session, const void *bytes, uint32_t count) {
     else if (!session->is_waiting)
         session->service->take(session);
     text_shrink(&session->in);
+}
+
+int session_has_room(struct session *session) {
+    session->is_held = session->out.length >= MOST_UNSENT;
+    return !session->is_held;
+}
+
+int session_resume(struct session *session) {
+    if (!session->is_held || session->is_waiting || session->out.length > 0)
+        return 0;
+    session->is_held = 0;
+    session->service->take(session);
+    return 1;
 }
 
 void session_drop(struct session *session) {
@@ -117,7 +130,8 @@ void sessions_poll(void) {
     }
 }
 
-int is_too_quiet(struct session *session) {
-    uint32_t most = session->is_waiting ? 0 : session->service->most_quiet(session);
-    return most != 0 && clock_now() - session->heard > most;
+int is_too_quiet(const struct session *session) {
+    uint32_t most = session->is_known ? session->service->most_quiet : MOST_STRANGE;
+    uint64_t since = session->is_known ? session->heard : session->began;
+    return most != 0 && !session->is_waiting && clock_now() - since > most;
 }

@@ -11,16 +11,22 @@
 #define MOST_ASKED (256 * 1024)
 #define MOST_ANSWER (1024 * 1024)
 
+/* No question is taken while so many bytes of answers aren't sent. */
+#define MOST_UNSENT (16 * 1024)
+
+/* A stranger's connection, on which nobody has proved yet that he may ask, is ended so many milliseconds after it began. */
+#define MOST_STRANGE 60000
+
 struct session;
 
 /* A protocol. */
 struct service {
     uint16_t port;
     uint32_t size;                          /* of its sessions, of which a `struct session` is the first part */
-    void (*take)(struct session *);         /* takes in what has come whole, unless it waits */
+    uint32_t most_quiet;                    /* after so many milliseconds without a byte it is ended; 0: never */
+    void (*take)(struct session *);         /* takes in what has come whole, unless it waits or the answers have no room */
     void (*go_on)(struct session *);        /* a lock that it waited for may be free */
     void (*end_of_input)(struct session *); /* the client says no more */
-    uint32_t (*most_quiet)(struct session *); /* after so many milliseconds without a byte it is ended; 0: never */
     void (*drop)(struct session *);         /* gives up what the protocol holds */
 };
 
@@ -33,10 +39,13 @@ struct session {
     struct text in, out;
     uint32_t sent;     /* bytes of `out` that the carrier has */
     uint32_t owed;     /* bytes that came, and for which the carrier hasn't said that more may come */
+    uint64_t began;    /* when the connection did */
     uint64_t heard;    /* when the last byte came */
+    int is_known;      /* it is no stranger's */
     uint64_t deadline; /* of the statement that runs */
     int is_ending;     /* it ends when all of `out` is sent */
     int is_waiting;    /* for a lock */
+    int is_held;       /* questions are left until what was answered is sent */
     uint64_t ticket;   /* whose turn it is among those that wait */
     /* Its transaction. */
     int is_implicit;   /* it was begun for several statements, and ends with them */
@@ -54,6 +63,12 @@ int session_open(struct session *session);
 /* Takes in bytes. Where there is no memory for them it ends. */
 void session_take(struct session *session, const void *bytes, uint32_t count);
 
+/* Whether its answers have room for another one, before which no question is taken; where they haven't it is held. */
+int session_has_room(struct session *session);
+
+/* Takes what was left, where it was held and all is sent. Answers whether it did: there may be more to send then. */
+int session_resume(struct session *session);
+
 /* Ends it at once. SQLite rolls back what it left open. */
 void session_drop(struct session *session);
 
@@ -66,8 +81,8 @@ struct session *session_of(uint32_t number);
 /* Goes on with those that wait, in their order, where a lock has been given back since the last time. */
 void sessions_poll(void);
 
-/* Whether it has been silent for too long. */
-int is_too_quiet(struct session *session);
+/* Whether it has been silent, or a stranger's, for too long. */
+int is_too_quiet(const struct session *session);
 
 /* The carrier's: sends what the session has said, and ends it where it is to end. The session may be gone then. */
 void carry(struct session *session);

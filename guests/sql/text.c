@@ -50,6 +50,27 @@ void add_number(struct text *text, int64_t number) {
     add(text, sqlite3_snprintf(sizeof digits, digits, "%lld", number));
 }
 
+uint32_t character(const char *bytes, uint32_t count) {
+    const uint8_t *at = (const uint8_t *)bytes;
+    uint32_t length = at[0] < 0x80 ? 1 : at[0] < 0xc2 ? 0 : at[0] < 0xe0 ? 2 : at[0] < 0xf0 ? 3 : at[0] < 0xf5 ? 4 : 0;
+    if (length > count)
+        return 0;
+    for (uint32_t i = 1; i < length; i++)
+        if ((at[i] & 0xc0) != 0x80)
+            return 0;
+    /* The second byte's bounds keep out what is longer than it need be, the halves of UTF-16, and what is beyond the last character. */
+    int is_beyond = (at[0] == 0xe0 && at[1] < 0xa0) || (at[0] == 0xed && at[1] > 0x9f) || (at[0] == 0xf0 && at[1] < 0x90)
+                    || (at[0] == 0xf4 && at[1] > 0x8f);
+    return is_beyond ? 0 : length;
+}
+
+int is_utf8(const char *bytes, uint32_t count) {
+    for (uint32_t length; count > 0; bytes += length, count -= length)
+        if (bytes[0] == '\0' || (length = character(bytes, count)) == 0)
+            return 0;
+    return 1;
+}
+
 void text_cut(struct text *text, uint32_t length) {
     text->length = length;
     text->is_full = 0;

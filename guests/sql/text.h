@@ -25,6 +25,13 @@ void add_bytes(struct text *text, const void *bytes, uint32_t count);
 void add(struct text *text, const char *more);
 void add_number(struct text *text, int64_t number);
 
+/* How many bytes the character has that begins here, in UTF-8 (RFC 3629); 0 where none does. */
+uint32_t character(const char *bytes, uint32_t count);
+
+/* Whether bytes are UTF-8, and none of them is zero: as in PostgreSQL, text has none. */
+int is_utf8(const char *bytes, uint32_t count);
+#define NOT_UTF8 "text must be UTF-8, without a zero"
+
 /* Takes the text back to a length that it had. */
 void text_cut(struct text *text, uint32_t length);
 

@@ -43,10 +43,12 @@ void disk_write(uint64_t sector, const void *from, uint32_t count) {
     }
 }
 
+uint64_t clock_ahead;
+
 uint64_t clock_steps(void) {
     struct timespec now;
     clock_gettime(CLOCK_MONOTONIC, &now);
-    return (uint64_t)now.tv_sec * 1000000000 + (uint64_t)now.tv_nsec;
+    return (uint64_t)now.tv_sec * 1000000000 + (uint64_t)now.tv_nsec + clock_ahead * 1000000;
 }
 
 uint64_t clock_now(void) { return clock_steps() / 1000000; }

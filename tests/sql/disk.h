@@ -22,6 +22,9 @@ struct medium {
 
 extern struct medium *medium;
 
+/* So many milliseconds the guest's clock is ahead of this machine's. */
+extern uint64_t clock_ahead;
+
 /* Makes it, in a file that may be there already, or, where that is NULL, in memory that is shared with the processes that come of this
    one. */
 void medium_make(const char *file);

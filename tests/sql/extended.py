@@ -106,6 +106,48 @@ def flows(client: Postgres) -> Iterator[tuple[str, str | None]]:
     yield "other columns than before", differs(code_after(client, bind("", "w") + execute() + SYNC), "0A000")
 
 
+def ends(client: Postgres) -> Iterator[tuple[str, str | None]]:
+    """Portals end with their transaction, and messages where they say."""
+    values = parse("v", "VALUES(1),(2),(3)")
+    for end in ("COMMIT", "ROLLBACK"):
+        client.ask("BEGIN")
+        seen = [kinds(client, values + bind("p", "v") + execute("p", 1) + SYNC), client.ask(end)[0].tag]
+        yield f"a portal doesn't outlive {end}", differs([*seen, code_after(client, execute("p", 1) + SYNC)], ["12DsZ", end, "34000"])
+        client.ask("BEGIN; DEALLOCATE v")
+        client.send(values + bind("p", "v") + execute("p", 1) + parse("", end) + bind("", "") + execute())
+        yield f"nor {end} that is executed", differs(code_after(client, execute("p", 1) + SYNC), "34000")
+        client.ask("DEALLOCATE v")
+    client.ask("BEGIN")
+    kinds(client, values + bind("p", "v") + execute("p", 1) + SYNC)
+    code_of(lambda: client.ask("SELEC"))
+    yield "nor does it run in a transaction that failed", differs(code_after(client, execute("p", 1) + SYNC), "25P02")
+    client.ask("ROLLBACK; DEALLOCATE v")
+    kinds(client, parse("v", "SELECT 1") + bind("", "v") + SYNC)
+    client.ask("BEGIN")
+    kinds(client, parse("v2", "SELECT 1") + bind("", "v2") + SYNC)
+    client.ask("SELECT 2")
+    yield "nor a simple query, without a name", differs(code_after(client, execute() + SYNC), "34000")
+    client.ask("ROLLBACK; DEALLOCATE ALL")
+    for name, data in [("Parse", message(b"P", string(""), string("SELECT 1"), b"\0\0", b"more")),
+                       ("Bind", message(b"B", string(""), string(""), b"\0\0\0\0\0\0", b"more")),
+                       ("Describe", message(b"D", b"S", string(""), b"more")), ("Execute", message(b"E", string(""), bytes(4), b"more")),
+                       ("Close", message(b"C", b"S", string(""), b"more")), ("Close of nothing", message(b"C", b"x", string("")))]:
+        kinds(client, parse("", "SELECT 1") + SYNC)
+        yield f"bytes behind the end of {name}", differs(code_after(client, data + SYNC), "08P01")
+    for value in (b"a\0b", b"\xff", b"\xc3"):
+        yield f"no text: {value!r}", differs(code_of(lambda: client.execute("SELECT $1", (value,))), "22021")
+    yield "nor as a statement", differs(code_after(client, message(b"P", string(""), b"SELECT '\xff'\0\0\0") + SYNC), "22021")
+
+
+def pipelined(client: Postgres) -> Iterator[tuple[str, str | None]]:
+    """Several answers of which each has room, and all together haven't."""
+    long = parse("", "WITH RECURSIVE c(x) AS (VALUES(1) UNION ALL SELECT x+1 FROM c WHERE x<700) SELECT printf('%01000d', x) FROM c")
+    one = long + bind("", "") + execute() + SYNC
+    wanted = "12" + "D" * 700 + "CZ"
+    came = [kinds(client, one * 4)] + [kinds(client, b"") for _ in range(3)]
+    yield "4 answers of 0.7 MB", differs([text[:2] + text[-2:] + str(len(text)) for text in came], [f"12CZ{len(wanted)}"] * 4)
+
+
 def code_after(client: Postgres, data: bytes) -> str:
     client.send(data)
     return code_of(client.results)
@@ -161,5 +203,7 @@ def tests(built: Built) -> Iterator[tuple[str, str | None]]:
             yield from parameters(client)
             yield from flows(client)
             yield from several(client)
+            yield from ends(client)
+            yield from pipelined(client)
             yield from beside(served, client)
         yield from passwords(built, room)

@@ -7,6 +7,7 @@ import shutil
 import sqlite3  # noqa: F401, so that its library is loaded
 import subprocess
 import sys
+from concurrent.futures import ThreadPoolExecutor
 from pathlib import Path
 
 ROOT = Path(__file__).resolve().parents[2]
@@ -15,6 +16,7 @@ GUEST, HERE = ROOT / "guests/sql", Path(__file__).resolve().parent
 FLAGS = ["-std=gnu11", "-O1", "-Wall", "-Wextra", "-Werror", "-DDISK_SECTORS=4096", "-DJOURNAL_SECTOR=2048", "-DLOG_SECTOR=3072",
          f"-I{HERE}", f"-I{GUEST}"]
 FILES = ["vfs", "locks"]
+SANITIZERS = ["-g", "-fsanitize=address,undefined", "-fno-sanitize-recover=all"]
 UNITS = ["digest", "locks", "statement", "request"]
 SESSIONS = ["text", "log", "digest", "password", "scram", "statement", "session", "work", "query", "rows", "messages", "parameters",
             "extended", "postgres", "request", "table", "page", "http"]
@@ -38,9 +40,11 @@ class Built:
     def __init__(self, room: Path) -> None:
         self.room, self.library = room, library()
         self.compiler = shutil.which("cc") or shutil.which("gcc") or sys.exit("there is no C compiler: apt-get install gcc")
-        for source in [*GUEST.glob("*.c"), *HERE.glob("*.c")]:
-            if source.stem in {*FILES, *UNITS, *SESSIONS, "disk", "power", "served", "units"}:
-                self.run("-c", source, "-o", room / f"{source.stem}.o")
+        self.checks = self.sanitizers()
+        parts = {*FILES, *UNITS, *SESSIONS, "disk"}
+        with ThreadPoolExecutor(4) as pool:
+            list(pool.map(self.compile, [*parts, "power", "served", "units"]))
+            list(pool.map(lambda part: self.compile(part, "checked"), [*parts, "fed"]))
         self.link("units", [*UNITS, "units"])
         self.link("power", [*FILES, "disk", "power"])
         self.link_served("")
@@ -49,15 +53,29 @@ class Built:
     def run(self, *words: object) -> None:
         subprocess.run([self.compiler, *FLAGS, *map(str, words)], check=True)
 
-    def link(self, name: str, parts: list[str]) -> None:
-        self.run("-o", self.room / name, *(self.room / f"{part}.o" for part in parts), self.library)
+    def compile(self, part: str, kind: str = "") -> None:
+        """An object file, or one of a kind: `checked`."""
+        [source] = [place / f"{part}.c" for place in (GUEST, HERE) if (place / f"{part}.c").exists()]
+        self.run(*(self.checks if kind else []), "-c", source, "-o", self.room / (f"{part}_{kind}".rstrip("_") + ".o"))
+
+    def link(self, name: str, parts: list[str], *options: str) -> None:
+        self.run(*options, "-o", self.room / name, *(self.room / f"{part}.o" for part in parts), self.library)
 
     def link_served(self, password: str) -> None:
-        """`served`, or `served_PASSWORD`."""
+        """`served` and `fed`, or `served_PASSWORD` and `fed_PASSWORD`."""
         name = f"served_{password}".rstrip("_")
         (self.room / f"{name}_key.c").write_text(secret(password))
         self.run("-c", self.room / f"{name}_key.c", "-o", self.room / f"{name}_key.o")
         self.link(name, [*FILES, *SESSIONS, "disk", "served", f"{name}_key"])
+        checked = [f"{part}_checked" for part in [*FILES, *SESSIONS, "disk", "fed"]]
+        self.link(name.replace("served", "fed"), [*checked, f"{name}_key"], *self.checks)
+
+    def sanitizers(self) -> list[str]:
+        """What makes a program of this compiler's watch its own memory, where it has that."""
+        (self.room / "empty.c").write_text("int main(void) { return 0; }\n")
+        words = [self.compiler, *SANITIZERS, self.room / "empty.c", "-o", self.room / "empty"]
+        has = subprocess.run(words, capture_output=True).returncode == 0 and subprocess.run([self.room / "empty"]).returncode == 0
+        return SANITIZERS if has else []
 
 
 def own(room: Path, amalgamation: Path) -> Built:
@@ -97,3 +115,38 @@ class Served:
             self.process.communicate("\n", timeout=60)
         if self.process.returncode not in (0, -9):
             raise RuntimeError(f"it ended with {self.process.returncode}")
+
+
+class Fed:
+    """`fed`, running over a file that is the disk: sessions without a network, and no time but what is told."""
+
+    def __init__(self, built: Built, disk: Path, password: str = "") -> None:
+        self.process = subprocess.Popen([built.room / f"fed_{password}".rstrip("_"), disk], stdin=subprocess.PIPE, stdout=subprocess.PIPE,
+                                        stderr=subprocess.PIPE, text=True)
+
+    def tell(self, *words: object) -> tuple[bool, bytes]:
+        """Does a line. Answers whether the connection is there then, and what was said to it."""
+        try:
+            self.process.stdin.write(" ".join(map(str, words)) + "\n")
+            self.process.stdin.flush()
+        except BrokenPipeError:
+            pass
+        line = self.process.stdout.readline()
+        if line == "":
+            raise RuntimeError(self.why())
+        there, _, said = line.rstrip("\n").partition(" ")
+        return there == "there", bytes.fromhex(said)
+
+    def why(self) -> str:
+        """Why it has ended."""
+        said = self.process.stderr.read()
+        self.process.wait(60)
+        return f"it ended with {self.process.returncode}, where -14 is its watchdog: {said[:2000]}"
+
+    def __enter__(self) -> Fed:
+        return self
+
+    def __exit__(self, kind: object, *_: object) -> None:
+        self.process.stdin.close()
+        if self.process.wait(60) != 0 and kind is None:
+            raise RuntimeError(self.why())

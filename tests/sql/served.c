@@ -21,6 +21,9 @@
 #define MOST 64
 #define EVERY 97
 
+/* So much may come while a session takes nothing, as TCP has it. */
+#define WINDOW 65536
+
 static struct session *sessions[MOST];
 static unsigned refused;
 
@@ -73,14 +76,16 @@ static void forget(int place) {
 /* Sends what a socket takes. Answers whether the connection is there still. */
 static int send_to(struct session *session) {
     struct text *out = &session->out;
-    while (session->sent < out->length) {
-        ssize_t count = send(descriptor_of(session), out->bytes + session->sent, out->length - session->sent, MSG_NOSIGNAL);
-        if (count < 0)
-            return errno == EAGAIN;
-        session->sent += (uint32_t)count;
-    }
-    session->sent = out->length = 0;
-    text_shrink(out);
+    do {
+        while (session->sent < out->length) {
+            ssize_t count = send(descriptor_of(session), out->bytes + session->sent, out->length - session->sent, MSG_NOSIGNAL);
+            if (count < 0)
+                return errno == EAGAIN;
+            session->sent += (uint32_t)count;
+        }
+        session->sent = out->length = 0;
+        text_shrink(out);
+    } while (session_resume(session));
     return !session->is_ending;
 }
 
@@ -139,7 +144,8 @@ static void serve(const int listeners[2]) {
             watched[count++] = (struct pollfd){listeners[i], POLLIN, 0};
         for (int i = 0; i < MOST; i++)
             if (sessions[i] != NULL) {
-                short events = sessions[i]->out.length > 0 ? POLLIN | POLLOUT : POLLIN;
+                int is_stopped = (sessions[i]->is_waiting || sessions[i]->is_held) && sessions[i]->in.length >= WINDOW;
+                short events = (is_stopped ? 0 : POLLIN) | (sessions[i]->out.length > 0 ? POLLOUT : 0);
                 places[count] = i;
                 watched[count++] = (struct pollfd){descriptor_of(sessions[i]), events, 0};
             }

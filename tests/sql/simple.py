@@ -106,6 +106,26 @@ def transactions(client: Postgres) -> Iterator[tuple[str, str | None]]:
     yield "settings", differs(client.rows("SHOW transaction_isolation"), [("serializable",)])
 
 
+def texts(served: Served) -> Iterator[tuple[str, str | None]]:
+    """What is no text is refused, and none of it is run."""
+    client = Postgres(served.postgres)
+    client.ask("CREATE TABLE texts(a)")
+    for name, data, code in [("bytes behind a zero", b"INSERT INTO texts VALUES(1)\0; DELETE FROM texts\0", "08P01"),
+                             ("a query without its zero", b"INSERT INTO texts VALUES(1)", "08P01"),
+                             ("bytes that are not UTF-8", b"INSERT INTO texts VALUES('\xff')\0", "22021"),
+                             ("half of a character of UTF-16", b"INSERT INTO texts VALUES('\xed\xa0\x80')\0", "22021")]:
+        client.send(message(b"Q", data))
+        yield name, differs([code_of(client.results), client.rows("SELECT count(*) FROM texts")], [code, [(0,)]])
+    client.ask("BEGIN")
+    client.send(message(b"Q", b"SELECT '\xff'\0"))
+    seen = [code_of(client.results), client.status]
+    client.ask("ROLLBACK; INSERT INTO texts VALUES('\u00e9\u20ac\U0001f600')")
+    yield "and end a transaction, as each error does", differs([*seen, client.rows("SELECT * FROM texts")],
+                                                              ["22021", "E", [("\u00e9\u20ac\U0001f600",)]])
+    client.ask("DROP TABLE texts")
+    client.close()
+
+
 def later(act: Callable[[], object]) -> tuple[threading.Thread, list[object]]:
     """Does it in a thread; its answer comes into the list."""
     came: list[object] = []
@@ -247,6 +267,7 @@ def tests(built: Built) -> Iterator[tuple[str, str | None]]:
             yield from errors(client)
             yield from values(client)
             yield from transactions(client)
+            yield from texts(served)
             yield from waiting(served, client)
             yield from nonsense(served)
         yield from want_of_memory(built, room)

@@ -1,0 +1,114 @@
+/* Sessions of guests/sql without a network: each line of standard input does something to one, and its answer is a line. It is ended by a
+   watchdog where a line takes longer than some seconds.
+
+     open PLACE PORT    a connection to a port of the guest's
+     take PLACE HEX     these bytes come
+     end PLACE          the client says no more
+     later N            N milliseconds go by
+     turn               a turn of the guest's loop
+
+   The answer is 'there' or 'gone', which the connection is then, and what was said to it since the last time, in hex. */
+#include <stdio.h>
+#include <stdlib.h>
+#include <string.h>
+#include <unistd.h>
+
+#include "../../guests/sql/http.h"
+#include "../../guests/sql/log.h"
+#include "../../guests/sql/postgres.h"
+#include "disk.h"
+
+#define MOST 1048576
+#define PLACES 8
+#define WATCHDOG 10 /* seconds */
+
+static struct place {
+    struct session *session;
+    struct text said;
+} places[PLACES];
+
+static struct place *place_of(const struct session *session) {
+    for (int i = 0; i < PLACES; i++)
+        if (places[i].session == session)
+            return &places[i];
+    abort();
+}
+
+void carry(struct session *session) {
+    struct place *place = place_of(session);
+    do {
+        add_bytes(&place->said, session->out.bytes, session->out.length);
+        session->out.length = 0;
+        text_shrink(&session->out);
+    } while (session_resume(session));
+    if (!session->is_ending && !is_too_quiet(session))
+        return;
+    session_drop(session);
+    place->session = NULL;
+}
+
+static uint32_t bytes_of(const char *hex, uint8_t *to) {
+    uint32_t count = 0;
+    unsigned byte;
+    for (; hex != NULL && sscanf(hex, "%2x", &byte) == 1; hex += 2)
+        to[count++] = (uint8_t)byte;
+    return count;
+}
+
+static void tell(struct place *place) {
+    printf(place->session == NULL ? "gone " : "there ");
+    for (uint32_t i = 0; i < place->said.length; i++)
+        printf("%02x", (uint8_t)place->said.bytes[i]);
+    printf("\n");
+    text_cut(&place->said, 0);
+}
+
+static void do_to(struct place *place, const char *what, const char *with) {
+    static uint8_t bytes[MOST];
+    if (strcmp(what, "open") == 0) {
+        place->said.most = 64 * MOST;
+        place->session = session_start(atoi(with) == http.port ? &http : &postgres, NULL);
+    } else if (place->session != NULL) {
+        if (strcmp(what, "take") == 0)
+            session_take(place->session, bytes, bytes_of(with, bytes));
+        else if (strcmp(what, "end") == 0)
+            place->session->service->end_of_input(place->session);
+        carry(place->session);
+    }
+    tell(place);
+}
+
+static void turn(void) {
+    sessions_poll();
+    for (int i = 0; i < PLACES; i++)
+        if (places[i].session != NULL)
+            carry(places[i].session);
+}
+
+int main(int count, char **words) {
+    static char line[2 * MOST + 64];
+    if (count < 2)
+        return 2;
+    medium_make(words[1]);
+    if (log_start() != SQLITE_OK || sqlite3_initialize() != SQLITE_OK || vfs_register() != SQLITE_OK || !vfs_start())
+        return 2;
+    while (fgets(line, sizeof line, stdin) != NULL) {
+        const char *what = strtok(line, " \n"), *which = strtok(NULL, " \n"), *with = strtok(NULL, " \n");
+        alarm(WATCHDOG);
+        if (strcmp(what, "later") == 0)
+            clock_ahead += (uint64_t)atoi(which);
+        if (strcmp(what, "later") == 0 || strcmp(what, "turn") == 0)
+            turn();
+        if (which != NULL && strcmp(what, "later") != 0)
+            do_to(&places[atoi(which) % PLACES], what, with);
+        else
+            printf("\n");
+        fflush(stdout);
+    }
+    for (int i = 0; i < PLACES; i++) {
+        if (places[i].session != NULL)
+            session_drop(places[i].session);
+        text_drop(&places[i].said);
+    }
+    return 0;
+}
