@@ -9,6 +9,7 @@
 #include "query.h"
 #include "rows.h"
 #include "scram.h"
+#include "trigger.h"
 
 /* What a client may begin with, in place of a message's type. */
 #define VERSION_3 196608
@@ -28,7 +29,9 @@ struct client {
     enum { STARTS, SAYS_WHO, PROVES, IS_READY } stage;
     struct scram scram;
     uint32_t key;         /* by which its waiting can be ended */
+    int is_psql;          /* it says that it is this */
     int is_skipping;      /* messages, until the client says Sync */
+    struct text trigger;  /* that comes in parts, as far as it came */
     struct query query;
     struct columns columns; /* of the statement that runs */
     uint32_t described;     /* where its columns stand in what is said */
@@ -113,6 +116,24 @@ static void refuse_query(struct session *session, const char *code, const char *
     say_ready(session);
 }
 
+static void take_statements(struct client *client, const char *text, uint32_t length) {
+    struct session *session = &client->session;
+    struct text *kept = &client->trigger;
+    switch (client->is_psql ? take_part(kept, text) : IS_NONE) {
+    case IS_NONE: ask(client, text, length); break;
+    case IS_PART:
+        say_complete(&session->out, "CREATE TRIGGER, goes on until END", 0, 0);
+        say_ready(session);
+        break;
+    case IS_LAST:
+        ask(client, kept->bytes, kept->length);
+        text_drop(kept);
+        break;
+    case IS_ELSE: refuse_query(session, "42601", "the trigger before this has no END: neither was run"); break;
+    case NO_ROOM: refuse_query(session, "54000", "there is no memory for a trigger of this length"); break;
+    }
+}
+
 static void take_query(struct client *client, const char *text, uint32_t length) {
     struct session *session = &client->session;
     forget_unnamed(&client->extended);
@@ -124,7 +145,7 @@ static void take_query(struct client *client, const char *text, uint32_t length)
         say_empty(&session->out, 'I');
         say_ready(session);
     } else {
-        ask(client, text, length - 1);
+        take_statements(client, text, length - 1);
     }
 }
 
@@ -180,9 +201,12 @@ static uint32_t make_key(uint32_t number) {
 }
 
 /* Names and values, and an empty name. Answers whether they are that. */
-static int read_parameters(struct reader *reader) {
-    while (read_string(reader)[0] != '\0')
-        read_string(reader);
+static int read_parameters(struct client *client, struct reader *reader) {
+    for (const char *name = read_string(reader); name[0] != '\0'; name = read_string(reader)) {
+        const char *value = read_string(reader);
+        if (strcmp(name, "application_name") == 0)
+            client->is_psql = strcmp(value, "psql") == 0;
+    }
     return is_at_end(reader);
 }
 
@@ -198,7 +222,7 @@ static void take_start(struct client *client, const uint8_t *message, uint32_t l
             cancel(get_32(message + 8), get_32(message + 12));
     } else if (asked >> 16 != VERSION_3 >> 16) {
         end_with(session, "0A000", "version 3.0 of the protocol alone is spoken here");
-    } else if (!read_parameters(&(struct reader){message + 8, message + length, 0})) {
+    } else if (!read_parameters(client, &(struct reader){message + 8, message + length, 0})) {
         end_with(session, "08P01", "what the connection begins with is not as the protocol has it");
     } else {
         client->key = make_key(session->number);
@@ -381,6 +405,7 @@ static void drop(struct session *session) {
     columns_drop(&client->columns);
     forget_all(&client->extended);
     scram_drop(&client->scram);
+    text_drop(&client->trigger);
 }
 
 const struct service postgres = {5432, sizeof(struct client), 0, take, go_on, end_of_input, drop};

@@ -126,6 +126,32 @@ def texts(served: Served) -> Iterator[tuple[str, str | None]]:
     client.close()
 
 
+def triggers(served: Served) -> Iterator[tuple[str, str | None]]:
+    """psql sends a trigger in parts, each to its semicolon."""
+    psql, other = Postgres(served.postgres, program="psql"), Postgres(served.postgres)
+    psql.ask("CREATE TABLE counted(n); INSERT INTO counted VALUES(0); CREATE TABLE rows(a)")
+    parts = ["CREATE TEMP TRIGGER one AFTER INSERT ON rows BEGIN UPDATE counted SET n = n + 1;",
+             "/* ; */ INSERT INTO rows SELECT 7 WHERE new.a = ';';", "END;"]
+    tags = [psql.ask(part)[0].tag for part in parts]
+    psql.ask("INSERT INTO rows VALUES(1)")
+    yield "a trigger in parts", differs([tags, psql.rows("SELECT n FROM counted")],
+                                        [["CREATE TRIGGER, goes on until END"] * 2 + ["CREATE TRIGGER"], [(1,)]])
+    whole = "CREATE TRIGGER two AFTER INSERT ON rows BEGIN UPDATE counted SET n = n + 10; END"
+    tags = [one.ask(f"{whole}{end}")[-1].tag for one, end in ((psql, ";"), (other, ""))
+            if not one.ask("DROP TRIGGER IF EXISTS two")[0].rows]
+    psql.ask("INSERT INTO rows VALUES(1)")
+    yield "a trigger as a whole", differs([tags, psql.rows("SELECT n FROM counted")], [["CREATE TRIGGER"] * 2, [(12,)]])
+    psql.ask("CREATE TRIGGER three AFTER INSERT ON rows BEGIN DELETE FROM rows;")
+    seen = [code_of(lambda: psql.ask("DROP TABLE rows")), psql.ask("SELECT 1")[0].rows, code_of(lambda: psql.ask("END;"))]
+    yield "a trigger that is broken off", differs([*seen, psql.rows("SELECT count(*) FROM rows"), psql.warnings],
+                                                  ["42601", [(1,)], "none", [(2,)], ["25P01"]])
+    code = code_of(lambda: other.ask("CREATE TRIGGER three AFTER INSERT ON rows BEGIN DELETE FROM rows;"))
+    yield "another program's trigger isn't whole", differs([code, other.rows("SELECT 1")], ["42601", [(1,)]])
+    psql.ask("DROP TABLE rows; DROP TABLE counted")
+    psql.close()
+    other.close()
+
+
 def later(act: Callable[[], object]) -> tuple[threading.Thread, list[object]]:
     """Does it in a thread; its answer comes into the list."""
     came: list[object] = []
@@ -268,6 +294,7 @@ def tests(built: Built) -> Iterator[tuple[str, str | None]]:
             yield from values(client)
             yield from transactions(client)
             yield from texts(served)
+            yield from triggers(served)
             yield from waiting(served, client)
             yield from nonsense(served)
         yield from want_of_memory(built, room)
