@@ -292,8 +292,7 @@ static enum outcome bind_values(struct portal *portal, struct failure *failure) 
     for (int place = 1; place <= sqlite3_bind_parameter_count(compiled); place++) {
         const char *code = bind_value(compiled, place, &portal->values[number_of_place(compiled, place) - 1]);
         if (code != NULL)
-            return refuse(failure, code, strcmp(code, "22021") == 0 ? NOT_UTF8
-                                                                    : "a parameter's value is not of its type, or of one that is not read here");
+            return refuse(failure, code, strcmp(code, "22021") == 0 ? NOT_UTF8 : "a parameter's value isn't of its type, or can't be read");
     }
     return ENDED;
 }

@@ -33,8 +33,8 @@ void say_warning(struct text *out, const char *code, const char *why);
 #define NO_LENGTH UINT32_MAX
 uint32_t length_at(const uint8_t *at, uint32_t least, uint32_t most);
 
-/* How many bytes the first of these messages has; 0 where it hasn't come whole, NO_LENGTH where its length can't be. Before the length, which
-   counts itself and is from `least` to `most`, stand so many bytes of its type: 1, or 0 in a connection's first message. */
+/* How many bytes the first of these messages has; 0 where it hasn't come whole, NO_LENGTH where its length can't be. Before the length,
+   which counts itself and is from `least` to `most`, stand so many bytes of its type: 1, or 0 in a connection's first message. */
 uint32_t message_length(const uint8_t *bytes, uint32_t count, uint32_t type, uint32_t least, uint32_t most);
 
 /* A message from the client as it is read, part by part. Where it is too short `is_short` is set, and what is read is 0 or empty. */

@@ -325,8 +325,8 @@ static int take_message(struct client *client, const uint8_t *message, uint32_t 
     return outcome == WAITS;
 }
 
-/* What is seen ahead in messages that have come: whether those up to a place belong to the one statement that is executed until the client's
-   next Sync. */
+/* What is seen ahead in messages that have come: whether those up to a place belong to the one statement that is executed until the
+   client's next Sync. */
 struct ahead {
     uint32_t until;
     int is_alone;

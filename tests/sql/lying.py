@@ -138,7 +138,8 @@ def stage(built: Built, room: Path, name: str, password: str, parts: list[Part])
 def hidden_length(fed: Fed) -> str | None:
     """A message of no more than its head, whose length is -1, behind one that is whole: 26 bytes of a client that has no password."""
     fed.tell("open", LIAR, POSTGRES)
-    is_there, said = fed.tell("take", LIAR, (struct.pack(">II", 9, 196608) + b"\0" + message(b"p", b"SCRAM-S") + b"x\xff\xff\xff\xff").hex())
+    data = struct.pack(">II", 9, 196608) + b"\0" + message(b"p", b"SCRAM-S") + b"x\xff\xff\xff\xff"
+    is_there, said = fed.tell("take", LIAR, data.hex())
     return differs([is_there, said[:1], b"28P01" in said], [False, b"R", True])
 
 
