@@ -6,7 +6,9 @@ from host import messages
 
 CHUNK = 1 << 18
 SMALL = 1 << 14  # bytes: what came in one go, where it is fewer, was all that had come
+WAITING = 256  # connections that the system keeps until they are let in, so that the peer's isn't turned away for strangers
 MOST_UNSENT = 1 << 20  # bytes, after which nothing more is to be given to send
+ROOM = bytearray(CHUNK)  # where what comes is put first, whichever connection it comes over
 
 
 class Closed(Exception):
@@ -18,8 +20,9 @@ class Connection:
 
     def __init__(self, tcp, context, pinned, now, is_server):
         tcp.setblocking(False)
-        self.address = "?"
+        self.address = "?", 0
         self.is_server, self.pinned, self.begun = is_server, pinned, now
+        self.until, self.awaits, self.was_heard = now, "who it is", False  # what is to come next, and when at the latest
         self.socket = tcp
         self.is_tls = context is not None
         self.is_open = not self.is_tls  # whether the handshake is done
@@ -30,10 +33,19 @@ class Connection:
         self.came, self.unsent = bytearray(), bytearray()
         self.most = messages.MOST_BEFORE
         self.heard_at = self.said_at = now
-        self.room = bytearray(CHUNK)
 
     def fileno(self):
         return self.socket.fileno()
+
+    @property
+    def place(self):
+        """Where the other end is, as text."""
+        return "{}:{}".format(*self.address)
+
+    @property
+    def is_proven(self):
+        """Whether the other end has shown the pinned certificate."""
+        return self.is_tls and self.is_open
 
     @property
     def waits_to_write(self):
@@ -99,11 +111,11 @@ class Connection:
         ended, budget = None, 4 * CHUNK
         try:
             while budget > 0:
-                count = self.socket.recv_into(self.room)
+                count = self.socket.recv_into(ROOM)
                 if not count:
                     ended = "the other end closed it"
                     break
-                self.came += self.room[:count]
+                self.came += ROOM[:count]
                 budget -= count
                 pieces -= 1
                 if pieces <= 0 and count < SMALL and not self.has_more():
@@ -185,6 +197,6 @@ def listening(address):
         tcp.bind(address)
     except OSError as error:
         raise OSError(None, f"the link can't be awaited at {address[0]}:{address[1]}: {error.strerror}") from None
-    tcp.listen(16)
+    tcp.listen(WAITING)
     tcp.setblocking(False)
     return tcp

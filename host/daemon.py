@@ -88,12 +88,14 @@ class Daemon:
         self.node = Node(self.settings.node)
 
     def stand_by(self, session, offer):
-        """An empty host becomes the standby of a live one. Raises Refused."""
+        """An empty host becomes the standby of a live one. That is on the disk before the live host hears of it. Raises Refused, and
+        OSError where it can't be written."""
+        self.state.keep(offer["life"], offer["generation"], "held")
         self.node.ask(f"standby {offer['pages']} {offer['sectors']} {offer['generation']}")
         self.shape, self.life = (offer["pages"], offer["sectors"]), offer["life"]
         self.standby = Standby(self, session, self.life, offer["generation"], self.shape)
         self.counts.attachments += 1
-        self.log.info(f"this host is a standby of {offer['name']}, for generation {offer['generation']}")
+        self.log.info(f"this host is ready as a standby of {offer['name']}, for generation {offer['generation']}")
 
     def boot(self):
         """Raises Refused."""
@@ -142,16 +144,15 @@ class Daemon:
         if self.live and kind == messages.ACK:
             self.live.acknowledge(*messages.numbers(body), now)
         elif self.standby and kind == messages.TEXT:
-            was_full = self.standby.is_full
             try:
                 self.standby.text(body, now)
             except Broken as broken:
                 self.log.seldom("broken", "error", str(broken))
                 raise messages.Malformed("what came can't be taken") from None
-            if self.standby.is_full and not was_full:
-                self.state.keep(self.life, self.generation, "held")
         elif self.standby and kind == messages.GO_LIVE:
             self.told_to_go_live(*messages.numbers(body), now)
+        elif self.standby and not self.standby.is_full and kind == messages.NO:
+            self.meeting.turned_away(messages.fields(kind, body))
         else:
             raise messages.Malformed(f"a message of kind {kind} to a host that is {self.role}")
 
@@ -218,7 +219,7 @@ class Daemon:
     def is_quiet(self):
         """Whether nothing is under way but epochs, which go over the link."""
         link = self.link
-        return (link.is_up and not link.connection.waits_to_write and not link.strangers and link.tcp is None and self.task is None and
+        return (link.is_up and not link.connection.waits_to_write and not link.is_meeting and self.task is None and
                 self.network.wrong is None and not any(one.clients or one.late for one in self.served))
 
     def quiet_epochs(self, reading):

@@ -1,26 +1,31 @@
 """The link to the peer: who isn't live dials, who is live takes the one standby that comes. What two hosts say when they meet is in
 meeting.py; here are the sockets, and what comes from strangers."""
 import errno
+import random
 import socket
 import time
 
 from host import messages
 from host.connection import Closed, Connection, contexts, dialled, listening
 
-MOST_STRANGERS = 16  # connections that haven't met this host; the oldest makes room
-MOST_AT_ONCE = 2  # strangers that are let in, and that are heard, in one turn of the loop
-PATIENCE = 5.0  # seconds, for a stranger to say who it is
+MOST_STRANGERS = 128  # connections that haven't shown who they are, of the peer's address and of all others; the oldest makes room
+MOST_CALLERS = 4  # connections of the peer that aren't attached: it has one, and each other one is of before
+ACCEPTED_AT_ONCE = 16  # strangers that are let in in one turn of the loop
+HEARD_AT_ONCE = 2  # strangers that are heard in one turn
+PATIENCE = 5.0  # seconds, for a stranger to say who it is, and for the peer to say what comes next
 AGAIN = 0.25  # seconds, until the peer is dialled again
 
 
 class Link:
-    """`meeting` is told what comes before an attachment, `attached` what comes in it; both raise Malformed where it is nonsense."""
+    """`meeting` is told what comes before an attachment, `attached` what comes in it; both raise Malformed where it is nonsense. A stranger
+    is who came and hasn't shown who it is: strangers make room for each other alone. `callers` have shown the peer's certificate, or were
+    offered an attachment where the link is plain; `call` is the connection by which this host calls the peer."""
 
     def __init__(self, settings, log, counts):
         self.settings, self.log, self.counts = settings, log, counts
         self.server_context, self.client_context, self.pinned = contexts(settings)
         self.listener = listening(settings.listen) if settings.listen else None
-        self.strangers, self.tcp, self.tcp_begun = [], None, 0.0
+        self.strangers, self.callers, self.call, self.tcp, self.tcp_begun = [], [], None, None, 0.0
         self.connection, self.session = None, None  # the attached connection, and its session's name
         self.dial_at, self.heard_at, self.lost_at = 0.0, None, None
         self.meeting = self.attached = self.lost = None
@@ -50,8 +55,7 @@ class Link:
 
     def attach(self, connection, session, now):
         """This connection is the attachment's from now on."""
-        if connection in self.strangers:
-            self.strangers.remove(connection)
+        self.forget(connection)
         if self.connection is not None and self.connection is not connection:
             self.connection.close()
         connection.met()
@@ -80,15 +84,31 @@ class Link:
 
     def due(self, now, dials):
         """When there is something to do, if nothing comes before."""
-        times = [stranger.begun + PATIENCE for stranger in self.strangers]
+        times = [one.until for one in self.unattached()]
         if self.connection is not None:
             if self.connection.has_more():
                 return now
             quiet = self.settings.link_ms
             times += self.connection.heard_at + quiet, self.connection.said_at + quiet / 4
-        elif dials and self.settings.peer:
+        elif dials and self.settings.peer and self.call is None:
             times.append(self.tcp_begun + PATIENCE if self.tcp else self.dial_at)
         return min(times, default=None)
+
+    def peers(self):
+        """The connections of the peer that aren't attached."""
+        return self.callers if self.call is None else [*self.callers, self.call]
+
+    def unattached(self):
+        return [*self.strangers, *self.peers()]
+
+    @property
+    def is_dialling(self):
+        return self.tcp is not None or self.call is not None
+
+    @property
+    def is_meeting(self):
+        """Whether anybody is met, or dialled."""
+        return bool(self.strangers or self.callers) or self.is_dialling
 
     def watched(self, reading, writing, is_patient):
         """Adds the sockets that are looked at; for reading not the attached one, if it can wait."""
@@ -96,7 +116,7 @@ class Link:
             reading.append(self.listener)
         if self.tcp is not None:
             writing.append(self.tcp)
-        for connection in (*self.strangers, self.connection):
+        for connection in (*self.unattached(), self.connection):
             if connection is not None:
                 if not is_patient or connection is not self.connection:
                     reading.append(connection)
@@ -110,32 +130,40 @@ class Link:
             self.go_on_dialling(writing, now)
         if self.connection is not None:
             self.hear(self.connection, reading, writing, now)
-        if self.strangers:
-            self.hear_strangers(reading, writing, now)
-        if dials and self.connection is None and self.tcp is None and self.settings.peer and now >= self.dial_at:
-            if not any(not stranger.is_server for stranger in self.strangers):
-                self.dial(now)
+        if self.is_meeting:
+            self.hear_unattached({*reading, *writing}, now)
+        if dials and self.connection is None and not self.is_dialling and self.settings.peer and now >= self.dial_at:
+            self.dial(now)
 
     def accept(self, now):
-        for _ in range(MOST_AT_ONCE):
+        for _ in range(ACCEPTED_AT_ONCE):
             try:
                 tcp, address = self.listener.accept()
             except OSError:
                 return
-            if len(self.strangers) >= MOST_STRANGERS:
-                oldest = min((one for one in self.strangers if one.is_server), key=lambda one: one.begun)
-                self.drop(oldest, "it makes room for another one")
             tcp.setsockopt(socket.IPPROTO_TCP, socket.TCP_NODELAY, 1)
-            self.meet(tcp, f"{address[0]}:{address[1]}", self.server_context, now, is_server=True)
+            connection = self.connection_of(tcp, address, self.server_context, now, is_server=True)
+            if connection is not None:
+                self.make_room([one for one in self.strangers if self.is_near(one) == self.is_near(connection)], MOST_STRANGERS)
+                self.strangers.append(connection)
 
-    def meet(self, tcp, address, context, now, is_server):
+    def is_near(self, connection):
+        """Whether it comes from the peer's address, so that no other address can fill its places."""
+        return connection.address[0] == self.settings.peer[0]
+
+    def make_room(self, connections, most):
+        """The oldest of these is dropped where there is no room for one more."""
+        if len(connections) >= most:
+            self.drop(min(connections, key=lambda one: one.begun), "it makes room for another one")
+
+    def connection_of(self, tcp, address, context, now, is_server):
+        """None where the socket is of no use any more."""
         try:
             connection = Connection(tcp, context, self.pinned, now, is_server)
         except (OSError, ValueError):
             tcp.close()
             return None
-        connection.address = address
-        self.strangers.append(connection)
+        connection.address, connection.until = address[:2], now + PATIENCE
         return connection
 
     def dial(self, now):
@@ -155,36 +183,75 @@ class Link:
             tcp.close()
             self.dial_at = now + AGAIN
             return
-        connection = self.meet(tcp, "{}:{}".format(*self.settings.peer), self.client_context, now, is_server=False)
-        if connection is not None:
-            connection.send(self.meeting.hello())
+        self.call = self.connection_of(tcp, self.settings.peer, self.client_context, now, is_server=False)
+        if self.call is None:
+            self.dial_at = now + AGAIN
+        else:
+            self.call.awaits = "an answer"
+            self.hear_one(self.call, now, self.meeting.hello())
 
-    def hear_strangers(self, reading, writing, now):
-        """A few of them, in turn, so that many cost what is attached no time."""
-        heard = 0
-        for connection in list(self.strangers):
-            if now - connection.begun > PATIENCE:
-                self.drop(connection, "it didn't say in time who it is")
-            elif heard < MOST_AT_ONCE and (connection in reading or connection in writing or connection.has_more()):
-                heard += 1
-                self.strangers.remove(connection)
-                self.strangers.append(connection)
-                self.hear_stranger(connection, reading, writing, now)
+    def hear_unattached(self, came, now):
+        """The peer, if it is one of them; and a few strangers, so that many cost what is attached no time."""
+        for connection in self.unattached():
+            if now > connection.until:
+                self.drop(connection, f"{connection.awaits} didn't come in time")
+        for connection in list(self.peers()):
+            if connection in came or connection.has_more():
+                self.hear_one(connection, now)
+        for connection in self.heard_now(came):
+            self.hear_one(connection, now)
 
-    def hear_stranger(self, connection, reading, writing, now):
+    def heard_now(self, came):
+        """Strangers of whom something came: those first who have begun to show who they are, and else by chance, so that none can make
+        others wait."""
+        ready = [one for one in self.strangers if one in came or one.has_more()]
+        random.shuffle(ready)
+        ready.sort(key=lambda one: not one.was_heard)
+        return ready[:HEARD_AT_ONCE]
+
+    def hear_one(self, connection, now, says=b""):
+        """What comes over a connection that isn't attached, once what is to be said over it is said."""
+        connection.was_heard = True
         try:
-            if connection in writing and connection.is_open:
+            if says:
+                connection.send(says)
+            elif connection.is_open:
                 connection.flush()
-            for kind, session, body in connection.messages(now):
-                if connection not in self.strangers:
-                    self.take(connection, kind, session, body, now)
-                else:
+            found = connection.messages(now)
+            if connection.is_proven:
+                self.knows(connection)
+            for kind, session, body in found:
+                if self.is_unattached(connection):
                     self.meeting.hear(connection, kind, session, body, now)
+                else:
+                    self.take(connection, kind, session, body, now)
         except (Closed, messages.Malformed) as error:
-            if connection in self.strangers:
+            if self.is_unattached(connection):
                 self.drop(connection, str(error))
             elif connection is self.connection:
                 self.lose(str(error))
+
+    def is_unattached(self, connection):
+        return connection is self.call or connection in self.callers or connection in self.strangers
+
+    def knows(self, connection):
+        """This connection is the peer's, as far as that can be known: no stranger makes it go."""
+        if connection in self.strangers:
+            self.make_room(self.callers, MOST_CALLERS)
+            self.strangers.remove(connection)
+            self.callers.append(connection)
+
+    def awaits(self, connection, what, now):
+        """This is to come next over a connection that isn't attached."""
+        connection.awaits, connection.until = what, now + PATIENCE
+
+    def forget(self, connection):
+        """This connection is none that isn't attached, any more."""
+        if connection is self.call:
+            self.call = None
+        for others in (self.strangers, self.callers):
+            if connection in others:
+                others.remove(connection)
 
     def take(self, connection, kind, session, body, now):
         """A message over a connection that isn't a stranger's any more."""
@@ -214,29 +281,31 @@ class Link:
         except (Closed, messages.Malformed) as error:
             self.lose(str(error))
 
-    def drop(self, connection, why):
-        """A stranger's connection is over."""
+    def leave(self, connection):
+        """A connection that isn't attached is over, and who asked for that has said why."""
         connection.close()
-        if connection in self.strangers:
-            self.strangers.remove(connection)
+        self.forget(connection)
+
+    def drop(self, connection, why):
+        """A connection that isn't attached is over."""
+        self.leave(connection)
         if connection.is_server:
             self.counts.dropped_messages += 1
-            self.log.seldom("stranger", "warning", f"a connection from {connection.address} was dropped: {why}")
+            self.log.seldom("stranger", "warning", f"a connection from {connection.place} was dropped: {why}")
         else:
-            self.log.seldom("dialled", "debug", f"the peer at {connection.address}: {why}")
+            self.log.seldom("dialled", "debug", f"the peer at {connection.place}: {why}")
             self.dial_at = self.now() + AGAIN
 
     def refuse(self, connection, message, why, level="info"):
-        """A stranger is told why not, and its connection is over."""
+        """Who came is told why not, and its connection is over."""
         try:
             connection.send(message)
         except Closed:
             pass
-        self.log.seldom("refused", level, f"{connection.address} isn't attached: {why}")
-        connection.close()
-        self.strangers.remove(connection)
+        self.log.seldom("refused", level, f"{connection.place} isn't attached: {why}")
+        self.leave(connection)
 
     def end(self):
-        for one in [*self.strangers, self.connection, self.tcp, self.listener]:
+        for one in [*self.unattached(), self.connection, self.tcp, self.listener]:
             if one is not None:
                 one.close()

@@ -3,7 +3,9 @@ A standby that was offered an attachment makes itself ready for it, and says REA
 import secrets
 
 from host import messages
-from host.live import ALONE
+from host.backoff import Backoff
+from host.connection import Closed
+from host.live import ALONE, FILLING
 from host.messages import GO_LIVE, HELLO, NO, NO_SESSION, OFFER, OVER, READY, RESUME, Malformed, fields
 from host.node import Refused
 
@@ -14,6 +16,7 @@ class Meeting:
     def __init__(self, host):
         self.host, self.link, self.log = host, host.link, host.log
         self.offered = {}  # by connection: the session's name, and who it was offered to
+        self.protecting, self.standing_by = Backoff(), Backoff()  # how long after a failure the next standby is taken; is asked for
         self.peer_role = None
 
     def hello(self):
@@ -30,14 +33,14 @@ class Meeting:
                 self.greeted(connection, fields(kind, body), now)
             elif kind == READY and self.offered.get(connection, (None,))[0] == session:
                 self.ready(connection, now)
+            elif kind == NO and self.offered.get(connection, (None,))[0] == session:
+                self.declined(connection, fields(kind, body))
             else:
                 raise Malformed(f"a message of kind {kind} before an attachment")
         elif self.host.live and not self.host.is_frozen:
             raise Malformed("this host went live meanwhile")
         elif kind == NO:
-            told = fields(kind, body)
-            self.peer_role = told["role"]
-            self.link.drop(connection, told["why"])
+            self.no(connection, fields(kind, body))
         elif kind == OVER:
             self.over(connection, fields(kind, body)["why"])
         elif kind == OFFER:
@@ -49,8 +52,8 @@ class Meeting:
 
     # A live host's side.
 
-    def refuse(self, connection, why, level="info"):
-        told = messages.told(NO, NO_SESSION, why=why, role=self.host.role, name=self.host.settings.name)
+    def refuse(self, connection, why, level="info", session=NO_SESSION):
+        told = messages.told(NO, session, why=why, role=self.host.role, name=self.host.settings.name)
         self.link.refuse(connection, told, why, level)
 
     def greeted(self, connection, hello, now):
@@ -61,36 +64,81 @@ class Meeting:
             live.heard_of(hello["name"], hello["instance"])
         if host.role != "live":
             return self.refuse(connection, f"this host is {host.role}", "debug")
-        name, session = hello["name"], hello["session"]
+        session = hello["session"]
         if session is not None and live.session is not None and session == live.session.hex():
             return self.resume(connection, hello, now)
+        self.withdraw(hello["name"])
         if session is not None or hello["role"] == "frozen":
             return self.stale(connection, hello)
+        self.leave_unfilled(hello, now)
+        why = self.why_no_offer()
+        if why is None and self.protecting.left(now):
+            why = "the node refused to protect the guest, and is asked again later"
+        if why is not None:
+            return self.refuse(connection, why)
+        return self.offer(connection, hello, now)
+
+    def withdraw(self, name):
+        """A host of that name has come again: what it was offered before is void."""
+        for connection in [one for one, (_, standby, _) in self.offered.items() if standby[0] == name or not self.link.is_unattached(one)]:
+            del self.offered[connection]
+            if self.link.is_unattached(connection):
+                self.link.drop(connection, "it has come again since")
+
+    def leave_unfilled(self, hello, now):
+        """A standby that has begun anew before all of the full checkpoint was sent to it holds nothing with which anybody could go live."""
+        live = self.host.live
+        is_anew = live.standby is not None and hello["name"] == live.standby[0] and hello["instance"] != live.standby[1]
+        if is_anew and live.mode == FILLING and not live.is_fetched and self.host.task is None:
+            self.log.info(f"{hello['name']} has begun anew, before all of the full checkpoint was sent: it is filled anew")
+            self.link.close()
+            live.alone(now)
+
+    def why_no_offer(self):
+        """Why this host can't take a standby, if so."""
+        host, live = self.host, self.host.live
+        if host.role != "live":
+            return f"this host is {host.role}"
         if host.task is not None:
-            return self.refuse(connection, f"this host is busy: {host.task.name}")
+            return f"this host is busy: {host.task.name}"
         if live.mode != ALONE:
-            return self.refuse(connection, f"this host has a standby, {live.standby[0] if live.standby else 'a snapshot'}: "
-                                           "'alone' has to be told first, once that has stopped")
-        session = secrets.token_bytes(16)
-        self.offered = {one: offer for one, offer in self.offered.items() if one in self.link.strangers}
-        self.offered[connection] = session, (name, hello["instance"]), live.generation
+            return (f"this host has a standby, {live.standby[0] if live.standby else 'a snapshot'}: 'alone' has to be told first, once "
+                    "that has stopped")
+        return None
+
+    def offer(self, connection, hello, now):
+        host, session = self.host, secrets.token_bytes(16)
+        self.offered[connection] = session, (hello["name"], hello["instance"]), host.live.generation
+        self.link.knows(connection)
+        self.link.awaits(connection, "that it is ready", now)
         pages, sectors = host.shape
         connection.send(messages.told(OFFER, session, name=host.settings.name, instance=host.instance, life=host.life,
-                                      generation=live.generation + 1, pages=pages, sectors=sectors))
+                                      generation=host.live.generation + 1, pages=pages, sectors=sectors))
 
     def stale(self, connection, hello):
-        """A host comes with an attachment that isn't this one's."""
+        """A host comes with an attachment that isn't this one's. Where it has no full checkpoint it has nothing to lose."""
         host = self.host
+        if not hello["full"]:
+            return self.over_for(connection, hello, self.why_over(hello))
         if hello["life"] == host.life and hello["generation"] > host.generation:
             self.log.seldom("stale", "error", f"{hello['name']} holds generation {hello['generation']} of this guest, and this host lives "
                                               f"in {host.generation}: it may be this host that is stale")
             return self.refuse(connection, "this host lives in an earlier generation")
-        if hello["life"] != host.life and hello["full"]:
+        if hello["life"] != host.life:
             return self.refuse(connection, "this host lives another life: what is held there is another guest")
         if hello["life"] == host.life and hello["role"] == "frozen" and hello["generation"] == host.generation:
             return self.refuse(connection, "two hosts have this guest, in one generation")
-        why = "its filling begins again" if host.live.pacer.again else "that attachment is over"
-        self.link.refuse(connection, messages.told(OVER, NO_SESSION, why=why, name=host.settings.name), f"{hello['name']}: {why}")
+        return self.over_for(connection, hello, "that attachment is over")
+
+    def why_over(self, hello):
+        """What has become of the attachment of a standby without a full checkpoint."""
+        host = self.host
+        if hello["life"] == host.life and hello["generation"] > host.generation:
+            return "the attachment that was offered never began"
+        return "its filling begins again" if host.live.pacer.again else "that attachment is over"
+
+    def over_for(self, connection, hello, why):
+        self.link.refuse(connection, messages.told(OVER, NO_SESSION, why=why, name=self.host.settings.name), f"{hello['name']}: {why}")
 
     def resume(self, connection, hello, now):
         live = self.host.live
@@ -105,16 +153,28 @@ class Meeting:
         """The standby waits for the full checkpoint."""
         host, live = self.host, self.host.live
         session, standby, generation = self.offered.pop(connection)
-        if host.role != "live" or live.mode != ALONE or live.generation != generation or host.task is not None:
-            return self.refuse(connection, "another attachment came first")
-        try:
-            live.attach(session, standby, now)
-        except Refused as refused:
-            return self.refuse(connection, f"the node refuses to protect: {refused}")
+        why = self.why_no_offer()
+        if why is None and live.generation != generation:
+            why = f"this host lives in generation {live.generation} since, and offered one after {generation}"
+        if why is None:
+            try:
+                live.attach(session, standby, now)
+            except Refused as refused:
+                why = f"the node refuses to protect the guest: {refused}"
+                self.log.error(f"{why}; it is asked again in {self.protecting.failed(now):.0f} s at the earliest")
+        if why is not None:
+            return self.refuse(connection, why, session=session)
+        self.protecting.worked()
         host.counts.attachments += 1
         self.link.attach(connection, session, now)
         self.log.info(f"{standby[0]} is the new standby: its full checkpoint of generation {live.generation} has at most "
                       f"{live.pending[0].total} bytes")
+
+    def declined(self, connection, told):
+        """The host that was offered an attachment can't be a standby."""
+        del self.offered[connection]
+        self.link.leave(connection)
+        self.log.seldom("declined", "warning", f"{told['name']} can't be a standby: {told['why']}")
 
     # The side of a host that isn't live.
 
@@ -122,9 +182,28 @@ class Meeting:
         self.link.drop(connection, why)
         self.peer_role = "live"
         if self.host.role in ("standby", "frozen"):
-            self.log.warning(f"the peer is live, and {why}: what this host holds is stale, and it is given up")
-            self.host.become_empty()
+            self.give_up(f"the peer is live, and {why}")
         self.link.dial_at = self.link.now()
+
+    def give_up(self, why):
+        """What this host holds is of no use to anybody."""
+        if self.host.full:
+            self.log.warning(f"{why}: what this host holds is stale, and it is given up")
+        else:
+            self.log.warning(f"{why}: this host, which has no full checkpoint, begins anew")
+        self.host.become_empty()
+
+    def no(self, connection, told):
+        self.peer_role = told["role"]
+        self.link.drop(connection, told["why"])
+        if self.host.role == "standby" and not self.host.full and told["role"] in ("empty", "standby"):
+            self.give_up(f"{told['name']}, which had the guest, is {told['role']}")
+
+    def turned_away(self, told):
+        """The live host has thought better of the attachment that it offered."""
+        self.peer_role = told["role"]
+        self.link.close()
+        self.give_up(f"{told['name']} doesn't take this host as its standby: {told['why']}")
 
     def take_offer(self, connection, session, offer, now):
         host = self.host
@@ -133,12 +212,23 @@ class Meeting:
         try:
             host.stand_by(session, offer)
         except Refused as refused:
-            self.log.seldom("offer", "error", f"the node can't be a standby of {offer['pages']} pages: {refused}")
-            self.link.drop(connection, "its offer can't be taken")
-            self.link.dial_at = now + 5
-            return
+            return self.decline(connection, session, f"the node refuses a guest of {offer['pages']} pages: {refused}", now)
+        except OSError as error:
+            return self.decline(connection, session, f"the state folder {host.settings.state} can't be written: {error.strerror}", now)
+        self.standing_by.worked()
         self.met(connection, session, offer, now)
         self.link.send(messages.message(READY, session), now)
+
+    def decline(self, connection, session, why, now):
+        """This host can't be a standby: it says so, and asks again later, before the live host has done anything for it."""
+        seconds = self.standing_by.failed(now)
+        self.log.error(f"this host can't be a standby: {why}; it asks again in {seconds:.0f} s")
+        try:
+            connection.send(messages.told(NO, session, why=why[:200], role=self.host.role, name=self.host.settings.name))
+        except Closed:
+            pass
+        self.link.leave(connection)
+        self.link.dial_at = now + seconds
 
     def resumed(self, connection, told, now):
         self.host.standby.restart()

@@ -5,7 +5,8 @@ before there is one), and its body:
     2 OFFER     who is live: JSON, its guest's life, generation and shape; the message bears the new attachment's name
     3 READY     the standby, whose node waits for that generation. Only now the full checkpoint is cut
     4 RESUME    who is live, to its own standby that dialled again. What is pending comes again, text by text
-    5 NO        who is dialled: JSON, why. The dialler asks again later
+    5 NO        who is dialled: JSON, why. The dialler asks again later. With an attachment's name it answers OFFER, since the dialler can't
+                be a standby, or READY, since who is live can't protect its guest: that attachment never begins
     6 OVER      who is live: JSON, why. That attachment is over: the dialler gives up what it holds, and comes anew
     7 TEXT      who is live: generation, number, place, and length of the whole text (8 bytes each), and bytes of it. With the last bytes
                 the length is exact; of number 0 it may be more with those before, since it is known only once the end was fetched

@@ -123,3 +123,56 @@ class Proxy(threading.Thread):
     def stop(self):
         self.is_over = True
         self.join(5)
+
+
+class Breaker(Proxy):
+    """A proxy of a plain link that knows its messages: it breaks connections off at one of them, once. `place` is whose message it is: 0 is
+    who dialled, 1 who was dialled."""
+
+    def __init__(self, listen, target):
+        super().__init__(listen, target)
+        self.plan, self.came = None, {}
+
+    def breaks(self, place, kind, how, is_it=lambda message: True):
+        """From now on, at the first message of that kind for which `is_it` is so: `how` is 'before' it, 'behind' it, or 'without' it, and
+        then the connection stays."""
+        self.plan = place, kind, how, is_it
+
+    @property
+    def has_broken(self):
+        return self.plan is None
+
+    def read(self, way, place):
+        try:
+            data = way.ends[place].recv(CHUNK)
+        except OSError:
+            data = b""
+        if not data:
+            return self.end(way)
+        came = self.came.setdefault((way, place), bytearray())
+        came += data
+        while way in self.ways and (message := first_message(came)):
+            del came[:len(message)]
+            self.take(way, place, message)
+
+    def take(self, way, place, message):
+        if self.plan is None or self.plan[:2] != (place, message[4]) or not self.plan[3](message):
+            way.queues[1 - place].append((0, message))
+            return
+        how, self.plan = self.plan[2], None
+        if how == "behind":
+            way.queues[1 - place].append((0, message))
+            self.write(way)
+        if how != "without":
+            self.end(way)
+
+    def end(self, way):
+        super().end(way)
+        for place in (0, 1):
+            self.came.pop((way, place), None)
+
+
+def first_message(came):
+    """The first message of these bytes, with its length before it, if it is whole."""
+    length = int.from_bytes(came[:4], "big") + 4
+    return bytes(came[:length]) if len(came) >= length > 4 else b""
