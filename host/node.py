@@ -1,6 +1,7 @@
 """The node's process, and its lines: docs/NODES.md."""
 import fcntl
 import os
+import resource
 import signal
 import subprocess
 from binascii import hexlify, unhexlify
@@ -11,6 +12,11 @@ SET_PIPE_SIZE = 1031  # F_SETPIPE_SZ
 # How the C library serves the node, unless the environment has it otherwise. What a large epoch takes is given back with it, so the next
 # one would get it from the system page by page, which takes longer than the cut itself: up to 256 MiB stay.
 MEMORY = {"MALLOC_MMAP_MAX_": "0", "MALLOC_TRIM_THRESHOLD_": str(256 << 20)}
+# A process whose stack wants a page that the kernel refuses is ended by SIGSEGV. At its first answer the node has nearly all that it ever
+# wants, some 200 KB, and it gets this much more at once; and a limit that is lower than this one is raised.
+MORE_STACK, STACK_LIMIT = 256 << 10, 8 << 20  # bytes
+ENDS = {signal.SIGSEGV: ", as one that is refused a page of its stack", signal.SIGKILL: ", as one that somebody kills, or the kernel where "
+        "memory is short"}
 WITH_FRAMES, REFUSALS = {b"steps", b"acked", b"alone"}, {b"refused", b"bad"}
 STEPS, WRITTEN = 7, 9  # the places of these numbers in the answer to `show`
 PIECE = 1 << 16  # bytes of a text that are asked for at a time
@@ -53,6 +59,7 @@ class Answer:
 def started(command: list[str]) -> subprocess.Popen:
     """A node's process. The signals that tell a daemon to end, which a terminal or an init system may send to all of its group, don't
     reach it: the daemon ends it, when it is needed no more."""
+    raise_stack_limit()
     kept = signal.pthread_sigmask(signal.SIG_BLOCK, SHIELDED)
     try:
         return subprocess.Popen(command, env=MEMORY | os.environ, stdin=subprocess.PIPE, stdout=subprocess.PIPE, bufsize=BUFFER)
@@ -60,6 +67,29 @@ def started(command: list[str]) -> subprocess.Popen:
         raise NodeEnded(f"{command[0]} can't be started: {error.strerror}") from None
     finally:
         signal.pthread_sigmask(signal.SIG_SETMASK, kept)
+
+
+def raise_stack_limit() -> None:
+    """Of this process, and of those that it starts, as far as it may."""
+    soft, hard = resource.getrlimit(resource.RLIMIT_STACK)
+    if soft != resource.RLIM_INFINITY and soft < STACK_LIMIT:
+        most = STACK_LIMIT if hard == resource.RLIM_INFINITY else min(hard, STACK_LIMIT)
+        resource.setrlimit(resource.RLIMIT_STACK, (most, hard))
+
+
+def grow_stack(pid: int) -> None:
+    """Has the kernel give a process more stack now. Raises NodeEnded where it refuses that."""
+    try:
+        with open(f"/proc/{pid}/maps") as maps:
+            begin = next((int(line.partition("-")[0], 16) for line in maps if line.endswith("[stack]\n")), 0)
+        with open(f"/proc/{pid}/mem", "r+b", buffering=0) as memory:
+            memory.seek(begin - MORE_STACK)
+            memory.write(bytes(MORE_STACK))  # below all that it has, so nothing is written over
+    except PermissionError:
+        pass  # whoever runs under another name, or is kept from it, grows page by page
+    except (OSError, ValueError):
+        raise NodeEnded(f"the node can't have {MORE_STACK} bytes of stack more: the limits here are too narrow (ulimit -s and -v, or "
+                        "vm.overcommit_memory)") from None
 
 
 class Node:
@@ -77,6 +107,11 @@ class Node:
         if self.tell(b"show")[0].words[:1] != [b"mode"]:
             self.close()
             raise NodeEnded(f"{' '.join(command)} doesn't answer as a node does")
+        try:
+            grow_stack(self.pid)
+        except NodeEnded:
+            self.close()
+            raise
 
     def tell(self, *lines):
         """The answers to these lines. Together they, or their answers, fit into a pipe, but for the last one's."""
@@ -110,7 +145,7 @@ class Node:
         except subprocess.TimeoutExpired:
             pass  # its pipes are closed, and it isn't needed without them
         self.close()
-        return f"the node ended, status {self.process.returncode}"
+        return ended(self.process.returncode)
 
     def kill(self):
         if self.process.poll() is None:
@@ -133,6 +168,14 @@ class Node:
                 return int(numbers.read().split()[1]) * os.sysconf("SC_PAGE_SIZE")
         except (OSError, IndexError):
             return 0
+
+
+def ended(status: int) -> str:
+    """How a node ended, by its exit status."""
+    if status >= 0:
+        return f"the node ended, status {status}"
+    names = {one.value: one.name for one in signal.Signals}
+    return f"the node ended by {names.get(-status, f'signal {-status}')}{ENDS.get(-status, '')}"
 
 
 def arrive(frame):
