@@ -12,8 +12,11 @@ pcs stonith create fence-one fence_ipmilan ip=192.168.100.11 username=fence pass
 pcs stonith create fence-two fence_ipmilan ip=192.168.100.12 username=fence password_script=/etc/remus/fence-password \
     pcmk_host_list=two pcmk_host_check=static-list op monitor interval=60s
 pcs resource create pair ocf:remus:pair config=/etc/remus/host.toml \
-    op start timeout=20s op stop timeout=20s on-fail=fence op promote timeout=20s op demote timeout=20s op notify timeout=20s \
-    op monitor role=Promoted interval=1s timeout=20s op monitor role=Unpromoted interval=2s timeout=20s \
+    op start timeout=20s op stop timeout=20s on-fail=fence op promote timeout=20s on-fail=demote op demote timeout=20s \
+    op notify timeout=20s op monitor role=Promoted interval=1s timeout=20s on-fail=demote \
+    op monitor role=Unpromoted interval=2s timeout=20s \
     meta priority=10 migration-threshold=0 \
     promotable promoted-max=1 clone-max=2 clone-node-max=1 notify=true interleave=true
 pcs resource defaults update resource-stickiness=1
+# To the system's log; by `pcs alert recipient add pair-alert value=/usr/local/bin/page-me` to your own program too.
+pcs alert create path=/usr/lib/remus/cluster/alert id=pair-alert

@@ -1,16 +1,18 @@
 """The actions of ocf:remus:pair."""
 import os
-import re
 import sys
 import syslog
+import time
 
+from agent import parameters
 from agent.cluster import Cluster
-from agent.daemon import Daemon
-from agent.life import Life, alone_in, stalls, why_not
-from agent.ocf import CONFIGURED, GENERIC, INSTALLED, NOT_RUNNING, PROMOTED, SUCCESS, UNIMPLEMENTED, Failure, meta, parameter, run, warn
+from agent.daemon import PATIENCE_SECONDS, Daemon, Silent
+from agent.life import SCORE_FIRST, SCORE_FULL, SCORE_LIVE, Life, alone_in, is_left_half_filled, may_boot, stale, stalls, why_not
+from agent.ocf import DEGRADED, GENERIC, INSTALLED, NOT_RUNNING, PROMOTED, SUCCESS, UNIMPLEMENTED, Failure, meta, run, warn
 
-SCORE_LIVE, SCORE_FULL, SCORE_FIRST = 200, 100, 5
 TAKE_SECONDS = 5  # for a demotion before a stop
+AS_STANDBY = ("Unpromoted", "Slave")  # what Pacemaker calls an instance, to whose monitor it says so
+LOST_SECONDS = 10  # nobody has the guest for so long: it isn't just on its way from one host to the other
 
 # What can't be safe otherwise, as Pacemaker's environment says it of the clone.
 CLONE = {"clone_max": "2", "notify": "true", "promoted_max": "1", "clone_node_max": "1"}
@@ -22,6 +24,29 @@ class Pair:
         self.daemon, self.cluster = Daemon(self.resource), Cluster(self.resource)
         self.asked = self.daemon.started + ".given-up"  # is there while this host has given its standby up
         self.gone = self.daemon.started + ".gone"  # the standby that the last monitor saw gone
+        self.lost = self.daemon.started + ".lost"  # is there, and as old, while nobody has the guest
+        self.wrong = self.daemon.started + ".wrong"  # is there while this node's attribute says that something is wrong
+
+    # What the daemon says.
+
+    def status(self) -> dict | None:
+        """The daemon's status; None where there is no daemon. One that is slow isn't dead: unless another host has the guest too, it is
+        waited for longer."""
+        try:
+            return self.daemon.status()
+        except Silent as silent:
+            if self.cluster.best_score_elsewhere() >= SCORE_FULL:
+                raise
+            warn(f"{silent.reason}. No other host has the guest, so it is waited for")
+            return self.daemon.status(PATIENCE_SECONDS)
+
+    def running(self) -> dict:
+        """The status of a daemon that has to be there."""
+        status = self.status()
+        if status is None:
+            self.daemon.refuse_deaf()
+            raise Failure(NOT_RUNNING, "remus-host doesn't run")
+        return status
 
     # Scores.
 
@@ -30,8 +55,12 @@ class Pair:
             return SCORE_LIVE
         life = self.cluster.life()
         if status["role"] == "empty":
-            return SCORE_FIRST if life is None else None
+            return SCORE_FIRST if may_boot(status, life, self.booting(status)) else None
         return SCORE_FULL if why_not(status, life) is None else None
+
+    def booting(self, status: dict) -> str:
+        """How the property names this host while it boots the guest: by its instance too, since another one can't know whether it did."""
+        return f"{self.cluster.node}:{status['instance']}"
 
     def publish(self, status: dict) -> None:
         """A life that can't be read is no reason to be promoted, and none to fail."""
@@ -46,11 +75,12 @@ class Pair:
 
     def start(self) -> int:
         self.validate(as_clone=True)
-        status = self.daemon.status()
+        parameters.keep(self.daemon.started)
+        status = self.status()
         if status is None:
             self.cluster.publish(None)
             self.daemon.start()
-            status = self.daemon.running()
+            status = self.running()
         self.publish(status)
         return SUCCESS
 
@@ -64,6 +94,18 @@ class Pair:
             self.daemon.stop()
         finally:
             publishing.join()
+        self.say_wrong([])
+        forget(self.lost)
+        return SUCCESS
+
+    def reload(self) -> int:
+        """A parameter was changed. This never fails: Pacemaker would restart the instance, and what the host holds would be gone. A value
+        that can't be taken is warned of, here and by each monitor, and the one before goes on."""
+        try:
+            self.validate()
+            parameters.keep(self.daemon.started)
+        except Failure as failure:
+            warn(f"a changed parameter isn't taken: {failure.reason}")
         return SUCCESS
 
     def take_guest(self) -> None:
@@ -81,20 +123,74 @@ class Pair:
         if not self.daemon.note() and not os.path.exists(self.daemon.config):
             return NOT_RUNNING
         try:
-            status = self.daemon.status()
+            status = self.status()
             if status is None:
                 return self.absent()
+            self.daemon.adopt()
             if status["role"] == "live":
                 return self.monitor_live(status)
             if status["role"] == "frozen" and self.goes_alone(status):
-                status = self.daemon.running()
-            if status["instance"] in self.cluster.given_up():
-                raise Failure(GENERIC, "this standby was given up: it has to begin anew")
-        except Failure:
+                status = self.running()
+            self.refuse_useless(status)
+        except Failure as failure:
+            if isinstance(failure, Silent) and meta("role") and self.cluster.best_score_elsewhere() < SCORE_FULL:
+                return self.leave_alone(failure.reason)
             self.cluster.publish(None)
             raise
         self.publish(status)
+        return self.monitor_unpromoted(status)
+
+    def leave_alone(self, why: str) -> int:
+        """The daemon runs and can't be asked, and no other host has the guest: to end it would surely end that. A live host keeps its score;
+        what else is here mustn't be promoted meanwhile."""
+        is_promoted = meta("role") not in AS_STANDBY
+        if not is_promoted:
+            self.cluster.publish(None)
+        self.say_wrong([f"{why}. No other host has the guest, so the daemon is left as it is"])
+        return PROMOTED if is_promoted else SUCCESS
+
+    def monitor_unpromoted(self, status: dict) -> int:
+        """What is wrong is said, and Pacemaker leaves the instance as it is."""
+        try:
+            lost = self.why_lost(status)
+        except Failure as failure:
+            self.say_wrong([failure.reason])
+            return SUCCESS
+        self.say_wrong([lost] if lost else [])
+        if lost:
+            raise Failure(DEGRADED, lost)
         return SUCCESS
+
+    def refuse_useless(self, status: dict) -> None:
+        """Nothing can become of what stands here, and Pacemaker is to start the instance anew."""
+        if status["instance"] in self.cluster.given_up():
+            raise Failure(GENERIC, "this standby was given up: it has to begin anew")
+        if is_left_half_filled(status) and self.cluster.life() is None:
+            raise Failure(GENERIC, "this standby was left half filled, and a new guest may be booted: it has to begin anew")
+
+    def why_lost(self, status: dict) -> str | None:
+        """Why nobody goes on with the guest that the property names, if that is so for a while."""
+        life = self.cluster.life()
+        here = None if life is None or not life.name else why_not(status, life)
+        if life is None or here is None or self.cluster.best_score_elsewhere() >= SCORE_FULL:
+            forget(self.lost)
+            return None
+        if age(self.lost) is None:
+            self.note(self.lost)
+        if (age(self.lost) or 0) < LOST_SECONDS:
+            return None
+        return (f"the guest of life {life.name} is live nowhere, and no host of the cluster can go on with it (here: {here}). A new one is "
+                f"booted once {self.cluster.life_name} is deleted")
+
+    def say_wrong(self, sentences: list[str]) -> None:
+        """Has the node's attribute say what is wrong here, the parameters too; or takes it back."""
+        sentences = [*sentences, *parameters.wrong(self.daemon)]
+        if sentences:
+            self.cluster.say_wrong("; ".join(sentences).replace('"', "'"))
+            self.note(self.wrong)
+        elif os.path.exists(self.wrong):
+            self.cluster.say_nothing()
+            forget(self.wrong)
 
     def goes_alone(self, status: dict) -> bool:
         """Has the guest go on alone where its standby has surely stopped and no notification said so: Pacemaker forgets one where it gives
@@ -107,7 +203,7 @@ class Pair:
             return False
         try:
             self.refuse_unsafe()
-            self.cluster.write_life(str(Life(status["life"], status["generation"])))
+            self.cluster.write_life(Life(status["life"], status["generation"]))
             self.daemon.command("alone", standby=standby)
         except Failure as failure:
             warn(f"the guest doesn't go on alone yet. {failure.reason}")
@@ -146,37 +242,58 @@ class Pair:
             warn(f"{path} can't be written: {error}")
 
     def absent(self) -> int:
-        """Nobody listens: no daemon was started, or it has ended, or it hangs."""
-        if self.daemon.process() is not None:
-            raise Failure(GENERIC, "remus-host runs, but doesn't listen")
+        """Nobody listens: no daemon was started, or it has ended, or its socket is gone."""
+        self.daemon.refuse_deaf()
         if self.daemon.note():
             raise Failure(NOT_RUNNING, "remus-host has ended")
         return NOT_RUNNING
 
     def monitor_live(self, status: dict) -> int:
+        self.refuse_stale(status)
         self.cluster.publish(SCORE_LIVE)
         if self.goes_alone(status):
-            status = self.daemon.running()
-        self.name_life(status)
+            status = self.running()
+        wrong = self.name_life(status)
+        if status["dead"]:
+            wrong.append(f"the guest can do nothing more: {status['dead']}")
+        if status.get("network_error"):
+            wrong.append(f"the guest's network doesn't carry: {status['network_error']}")
+        self.say_wrong(wrong)
         self.watch_standby(status)
         self.watch_network(status)
-        return PROMOTED
+        return SUCCESS if self.was_promoted_by_hand() else PROMOTED
 
-    def name_life(self, status: dict) -> None:
+    def was_promoted_by_hand(self) -> bool:
+        """Whether Pacemaker takes this live host for a standby, and nobody else is live. Pacemaker would stop it if it were told so; by its
+        score it promotes it."""
+        return meta("role") in AS_STANDBY and self.cluster.best_score_elsewhere() < SCORE_LIVE
+
+    def refuse_stale(self, status: dict) -> None:
+        try:
+            why = stale(status, self.cluster.life())
+        except Failure:
+            return  # what can't be read is no reason to stop a live host
+        if why:
+            raise Failure(GENERIC, why)
+
+    def name_life(self, status: dict) -> list[str]:
         """Writes the property of a live guest where it isn't there, or the guest has gone on alone since. Where that can't be done it is
-        done by a later monitor."""
+        done by a later monitor. Answers what is wrong, if something is."""
         try:
             now, true = self.cluster.life(), alone_in(status)
             if now is not None and now.name not in ("", true.name):
-                syslog.syslog(syslog.LOG_ERR, f"the life of the guest here is {true.name}, and {self.cluster.life_name} says {now}")
-            elif now is None or not now.name or now.generation < true.generation:
-                self.cluster.write_life(str(true))
+                why = f"the life of the guest here is {true.name}, and {self.cluster.life_name} says {now}: no standby of it goes live"
+                syslog.syslog(syslog.LOG_ERR, why)
+                return [why]
+            if now is None or not now.name or now.generation < true.generation:
+                self.cluster.write_life(true)
         except Failure as failure:
             warn(failure.reason)
+            return [failure.reason]
+        return []
 
-    @staticmethod
-    def has_stalled(status: dict) -> bool:
-        return stalls(status, float(parameter("stall", "2")))
+    def has_stalled(self, status: dict) -> bool:
+        return stalls(status, parameters.stall(self.daemon.started))
 
     def watch_standby(self, status: dict) -> None:
         """Asks for a standby that acknowledges nothing to be stopped, and takes that back where it acknowledges again."""
@@ -187,7 +304,7 @@ class Pair:
             self.note(self.asked)
         elif os.path.exists(self.asked):
             self.cluster.keep()
-            os.unlink(self.asked)
+            forget(self.asked)
 
     @staticmethod
     def watch_network(status: dict) -> None:
@@ -211,24 +328,26 @@ class Pair:
         return SUCCESS
 
     def go_live(self) -> None:
-        status = self.daemon.running()
+        status = self.running()
         if status["role"] != "live":
             unsafe = self.cluster.unsafe()
             if unsafe:
                 raise Failure(GENERIC, unsafe)
             life = self.cluster.life()
-            if life is None and status["role"] == "empty":
-                self.boot()
+            if may_boot(status, life, self.booting(status)):
+                self.boot(self.booting(status))
             else:
                 reason = why_not(status, life)
                 if reason:
                     raise Failure(GENERIC, reason)
                 self.daemon.command("promote")
-        self.name_life(self.daemon.running())
+        status = self.running()
+        self.refuse_stale(status)
+        self.name_life(status)
 
-    def boot(self) -> None:
+    def boot(self, booting: str) -> None:
         """Boots the guest. The property is written before, so that it is there whatever becomes of this host meanwhile."""
-        self.cluster.write_life("boot:" + self.cluster.node)
+        self.cluster.write_life(Life("", 0, booting))
         answer = self.daemon.ask("promote", boot=True, new=True)
         if answer is None:
             raise Failure(NOT_RUNNING, "remus-host ended while it booted the guest")
@@ -239,7 +358,7 @@ class Pair:
 
     def demote(self) -> int:
         self.cluster.publish(None)
-        if self.daemon.running()["role"] == "live":
+        if self.running()["role"] == "live":
             answer = self.daemon.command("demote")
             syslog.syslog(syslog.LOG_INFO, "demoted: the standby has all" if answer.get("handed_on") else "demoted: the guest is kept here")
         return SUCCESS
@@ -259,12 +378,13 @@ class Pair:
 
     def standby_has_stopped(self) -> None:
         """Pacemaker says that the other instance has stopped: by its agent, or since its host is fenced."""
-        status = self.daemon.status()
+        status = self.status()
         if status is None or status["role"] not in ("live", "frozen") or status["mode"] == "alone":
             return
         self.refuse_unsafe()
+        self.refuse_stale(status)
         try:
-            self.cluster.write_life(str(Life(status["life"], status["generation"])))  # no checkpoint of this generation goes live any more
+            self.cluster.write_life(Life(status["life"], status["generation"]))  # no checkpoint of this generation goes live any more
         except Failure as failure:
             warn(failure.reason)
         standby = status["peer"].get("instance")
@@ -277,7 +397,7 @@ class Pair:
 
     def other_is_live(self) -> None:
         """A guest that was stopped here, or a checkpoint of another guest, is of no use any more: this host has to begin anew."""
-        status = self.daemon.status()
+        status = self.status()
         if status is None or status["role"] not in ("frozen", "standby"):
             return
         life = self.cluster.life()
@@ -290,10 +410,9 @@ class Pair:
         self.validate_clone(as_clone)
         unsafe = self.cluster.unsafe()
         if unsafe:
-            raise Failure(CONFIGURED, unsafe)
-        stall = parameter("stall", "2")
-        if not re.fullmatch(r"\d{1,4}(\.\d+)?", stall, re.ASCII) or float(stall) < 0.5:
-            raise Failure(CONFIGURED, f"stall={stall}: it must be a number of seconds, 0.5 at least")
+            raise Failure(INSTALLED, unsafe)
+        if wrong := parameters.wrong_stall():
+            raise Failure(INSTALLED, wrong)
         if not os.access(self.daemon.program, os.X_OK) or os.path.isdir(self.daemon.program):
             raise Failure(INSTALLED, f"{self.daemon.program} isn't there, or can't be run")
         self.daemon.configured_control()
@@ -309,11 +428,26 @@ class Pair:
             said = meta(name) or (meta("master_max") if name == "promoted_max" else "")
             must = as_clone and name in ("clone_max", "notify")
             if said.lower() != value and (said or must):
-                raise Failure(CONFIGURED, f"the clone must have {name.replace('_', '-')}={value}, and has {said or 'none'}")
+                raise Failure(INSTALLED, f"the clone must have {name.replace('_', '-')}={value}, and has {said or 'none'}")
 
 
 ACTIONS = {"start": Pair.start, "stop": Pair.stop, "monitor": Pair.monitor, "promote": Pair.promote, "demote": Pair.demote,
-           "notify": Pair.notify, "validate-all": Pair.validate}
+           "notify": Pair.notify, "reload-agent": Pair.reload, "validate-all": Pair.validate}
+
+
+def forget(path: str) -> None:
+    try:
+        os.unlink(path)
+    except OSError:
+        pass
+
+
+def age(path: str) -> float | None:
+    """For how many seconds a note is there; None where it isn't."""
+    try:
+        return time.time() - os.stat(path).st_mtime
+    except OSError:
+        return None
 
 
 def meta_data() -> str:

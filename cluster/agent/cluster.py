@@ -1,8 +1,8 @@
-"""What the agent keeps in the cluster: this node's score, the guest's life, and which standby is given up."""
+"""What the agent keeps in the cluster: this node's score, the guest's life, which standby is given up, and what is wrong at a node."""
 import os
 import re
 
-from agent.life import Life
+from agent.life import Life, behind
 from agent.ocf import GENERIC, Failure, meta, run
 
 FALSE = ("false", "off", "no", "n", "0")
@@ -11,7 +11,7 @@ FALSE = ("false", "off", "no", "n", "0")
 class Cluster:
     def __init__(self, resource: str) -> None:
         self.resource = resource
-        self.life_name, self.given_up_name = resource + "-life", resource + "-given-up"
+        self.life_name, self.given_up_name, self.wrong_name = resource + "-life", resource + "-given-up", resource + "-wrong"
         self.read: dict[str, list[str]] | None = None
         self.node = meta("on_node") or run("crm_node", "--name").stdout.strip() or os.uname().nodename
 
@@ -39,9 +39,12 @@ class Cluster:
             raise Failure(GENERIC, f"the cluster's property {self.life_name} is there {len(values)} times")
         return Life.read(values[0]) if values else None
 
-    def write_life(self, value: str) -> None:
+    def write_life(self, life: Life) -> None:
+        """Never an earlier generation than is there: what a stale host says would win over the guest that went on."""
+        if why := behind(life, self.life()):
+            raise Failure(GENERIC, why)
         self.read = None
-        wrote = run("crm_attribute", "--type", "crm_config", "--name", self.life_name, "--update", value)
+        wrote = run("crm_attribute", "--type", "crm_config", "--name", self.life_name, "--update", str(life))
         if wrote.returncode != 0:
             raise Failure(GENERIC, f"the cluster's property {self.life_name} can't be written: {wrote.stderr}")
 
@@ -71,8 +74,9 @@ class Cluster:
         instances = [one for one in state.iterfind("./resources//resource") if one.get("id", "").partition(":")[0] == self.resource]
         active = {node.get("name") for one in instances for node in one.iterfind("node")}
         others = [node for node in state.iterfind("./nodes/node") if node.get("name") != self.node]
-        return (self.node in active and all(one.get("managed") == "true" for one in instances) and others != []
-                and all((node.get("unclean"), node.get("pending")) == ("false", "false") and node.get("name") not in active for node in others))
+        are_surely_off = all((node.get("unclean"), node.get("pending")) == ("false", "false") and node.get("name") not in active
+                             for node in others)
+        return self.node in active and all(one.get("managed") == "true" for one in instances) and others != [] and are_surely_off
 
     def score_command(self) -> list[str]:
         return ["crm_attribute", "--promotion=" + self.resource, "--node", self.node, "--lifetime", "reboot"]
@@ -85,6 +89,17 @@ class Cluster:
         elif score is not None and now != str(score):
             run(*self.score_command(), "--update", str(score))
 
+    @staticmethod
+    def attributes(name: str, *more: str) -> dict[str, str]:
+        """By node: the attribute, where it has one."""
+        asked = run("attrd_updater", "--name", name, "--query", "--all", *more)
+        return dict(re.findall(r'host="([^"]*)" value="([^"]*)"', asked.stdout))
+
+    def best_score_elsewhere(self) -> int:
+        """0 where no other node has one."""
+        scores = self.attributes("master-" + self.resource)
+        return max((int(score) for node, score in scores.items() if node != self.node and score.isdigit()), default=0)
+
     def give_up(self, instance: str) -> None:
         run("attrd_updater", "--name", self.given_up_name, "--node", self.node, "--update", instance, "--private")
 
@@ -93,5 +108,12 @@ class Cluster:
 
     def given_up(self) -> list[str]:
         """The instances that any node has given up."""
-        asked = run("attrd_updater", "--name", self.given_up_name, "--query", "--all", "--private")
-        return re.findall(r'value="([^"]*)"', asked.stdout)
+        return list(self.attributes(self.given_up_name, "--private").values())
+
+    def say_wrong(self, sentence: str) -> None:
+        """Has this node's attribute say what is wrong here, which crm_mon shows."""
+        if self.attributes(self.wrong_name).get(self.node) != sentence:
+            run("attrd_updater", "--name", self.wrong_name, "--node", self.node, "--update", sentence)
+
+    def say_nothing(self) -> None:
+        run("attrd_updater", "--name", self.wrong_name, "--node", self.node, "--delete")

@@ -8,12 +8,14 @@ import time
 from collections.abc import Callable
 from io import BufferedIOBase
 
-from agent.ocf import GENERIC, INSTALLED, NOT_RUNNING, Failure, parameter
+from agent.ocf import GENERIC, INSTALLED, NOT_RUNNING, Failure, parameter, warn
 
-ANSWER_SECONDS = 3  # a daemon that says nothing for so long hangs
+ANSWER_SECONDS = 3  # a daemon that says nothing for so long hangs, where another host has the guest too
+PATIENCE_SECONDS = 9  # and where none has, after so many more
 CHANGE_SECONDS = 15  # promote, demote, alone: the daemon's own limits are shorter
 END_SECONDS = 2  # from SIGTERM to SIGKILL
 KILL_SECONDS = 15
+ACTION_SECONDS = 18  # of the 20 that the configuration gives an action
 ROLES = ("empty", "standby", "live", "frozen")
 
 
@@ -49,6 +51,10 @@ def wait(remaining: Callable[[], list[int]], seconds: float) -> list[int]:
     return left
 
 
+class Silent(Failure):
+    """The daemon is there, and says nothing."""
+
+
 class Daemon:
     def __init__(self, resource: str) -> None:
         self.config = parameter("config", "/etc/remus/host.toml")
@@ -56,6 +62,7 @@ class Daemon:
         self.log = parameter("log", "/var/log/remus-host.log")
         self.folder = os.environ.get("REMUS_RUN", "/run/remus")
         self.started = os.path.join(self.folder, resource + ".started")
+        self.begun = time.monotonic()
 
     def note(self) -> dict:
         """What start left: the process, its start time, its control socket. Empty where nothing was started."""
@@ -64,6 +71,20 @@ class Daemon:
                 return json.load(file)
         except (OSError, ValueError):
             return {}
+
+    def keep(self, note: dict) -> None:
+        os.makedirs(self.folder, mode=0o755, exist_ok=True)
+        with open(self.started + ".new", "w", encoding="utf-8") as file:
+            json.dump(note, file)
+        os.rename(self.started + ".new", self.started)
+
+    def adopt(self) -> None:
+        """Notes a daemon that somebody else started as one's own, so that a configuration which is changed meanwhile doesn't hide it."""
+        try:
+            if not self.note() and (pid := self.process()) is not None:
+                self.keep({"pid": pid, "since": runs_since(pid), "control": self.configured_control(), "config": self.config})
+        except (OSError, Failure) as failure:
+            warn(f"the daemon that runs can't be noted: {failure}")
 
     def forget(self) -> None:
         try:
@@ -94,6 +115,9 @@ class Daemon:
         except (FileNotFoundError, ConnectionRefusedError, NotADirectoryError):
             link.close()
             return None
+        except (TimeoutError, BlockingIOError):  # so many wait for it that there is no room for one more
+            link.close()
+            raise Silent(GENERIC, "remus-host doesn't answer: it takes no connection") from None
         except OSError as error:
             link.close()
             raise Failure(GENERIC, f"remus-host can't be asked: {error}") from None
@@ -115,10 +139,13 @@ class Daemon:
             raise Failure(GENERIC, "remus-host's answer can't be understood")
         return answer
 
-    @staticmethod
-    def exchange(link: socket.socket, line: bytes, verb: str, seconds: float) -> bytes:
+    def left(self, seconds: float) -> float:
+        """So many seconds, or as many as this action may still take before Pacemaker breaks it off."""
+        return max(0.1, min(seconds, self.begun + ACTION_SECONDS - time.monotonic()))
+
+    def exchange(self, link: socket.socket, line: bytes, verb: str, seconds: float) -> bytes:
         """The line that answers this one; nothing where the daemon ended meanwhile."""
-        end, text = time.monotonic() + seconds, b""
+        end, text = time.monotonic() + self.left(seconds), b""
         try:
             link.sendall(line)
             while not text.endswith(b"\n"):
@@ -128,26 +155,20 @@ class Daemon:
                     return b""
                 text += more
         except TimeoutError:
-            raise Failure(GENERIC, f"remus-host doesn't answer: '{verb}' took more than {seconds} s") from None
+            raise Silent(GENERIC, f"remus-host doesn't answer: '{verb}' took more than {seconds:g} s") from None
         except OSError:
             return b""
         return text
 
-    def status(self) -> dict | None:
-        answer = self.ask("status", ANSWER_SECONDS)
+    def status(self, seconds: float = ANSWER_SECONDS) -> dict | None:
+        answer = self.ask("status", seconds)
         if answer is not None and (not answer.get("ok") or answer.get("role") not in ROLES):
             raise Failure(GENERIC, f"remus-host didn't say its status: {answer.get('why', answer)}")
         return answer
 
-    def running(self) -> dict:
-        status = self.status()
-        if status is None:
-            raise Failure(NOT_RUNNING, "remus-host doesn't run")
-        return status
-
     def command(self, verb: str, **fields: object) -> dict:
         """Has the daemon do it, once what it is busy with is done."""
-        end = time.monotonic() + CHANGE_SECONDS
+        end = time.monotonic() + self.left(CHANGE_SECONDS)
         while True:
             answer = self.ask(verb, **fields)
             if answer is None:
@@ -162,7 +183,6 @@ class Daemon:
 
     def start(self) -> None:
         """Starts the daemon, in a session of its own, and waits until it answers; Pacemaker ends a start that takes too long."""
-        os.makedirs(self.folder, mode=0o755, exist_ok=True)
         control = self.configured_control()
         words = [self.program, "run", "--config", self.config]
         if os.path.exists("/run/systemd/journal/stdout"):
@@ -170,9 +190,7 @@ class Daemon:
         else:
             with open(self.log, "ab") as log:
                 daemon = self.spawn(words, log)
-        with open(self.started + ".new", "w", encoding="utf-8") as file:
-            json.dump({"pid": daemon.pid, "since": runs_since(daemon.pid), "control": control}, file)
-        os.rename(self.started + ".new", self.started)
+        self.keep({"pid": daemon.pid, "since": runs_since(daemon.pid), "control": control, "config": self.config})
         while self.status() is None:
             if daemon.poll() is not None:
                 self.forget()
@@ -199,6 +217,10 @@ class Daemon:
         with link:
             told = link.getsockopt(socket.SOL_SOCKET, socket.SO_PEERCRED, 12)
         return int.from_bytes(told[:4], sys.byteorder) or None
+
+    def refuse_deaf(self) -> None:
+        if self.process() is not None:
+            raise Silent(GENERIC, "remus-host runs, but doesn't listen")
 
     def stop(self) -> None:
         """Ends the daemon, its node, and whatever else is of its session; fails where one of them doesn't end."""

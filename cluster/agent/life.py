@@ -2,31 +2,38 @@
 from agent.ocf import GENERIC, Failure
 
 FILLING_SECONDS = 60  # a standby that hasn't taken the full checkpoint by then is given up
+SCORE_LIVE, SCORE_FULL, SCORE_FIRST = 200, 100, 5
 
 
 class Life:
     """What the cluster's property says: `NAME:GENERATION`, the life of the guest and the last generation in which it was alone, so that a
-    checkpoint must be of a later one; or `boot:NODE`, while that node boots it, and then the name is empty."""
+    checkpoint must be of a later one; or `boot:NODE:INSTANCE`, while that instance at that node boots it: then the name is empty, and
+    `booting` says who."""
 
-    def __init__(self, name: str, generation: int) -> None:
-        self.name, self.generation = name, generation
+    def __init__(self, name: str, generation: int, booting: str = "") -> None:
+        self.name, self.generation, self.booting = name, generation, booting
 
     @staticmethod
     def read(text: str) -> "Life":
         name, _, generation = text.partition(":")
         if name == "boot" and generation:
-            return Life("", 0)
+            return Life("", 0, generation)
         if not name or not generation.isascii() or not generation.isdigit():
             raise Failure(GENERIC, f"the cluster's property that names the guest's life can't be understood: '{text}'")
         return Life(name, int(generation))
 
     def __str__(self) -> str:
-        return f"{self.name}:{self.generation}"
+        return f"boot:{self.booting}" if self.booting else f"{self.name}:{self.generation}"
 
 
 def alone_in(status: dict) -> Life:
     """What the property has to say of a live guest: it was alone in this generation, or, if it has a standby, in the one before."""
     return Life(status["life"], status["generation"] - (0 if status["mode"] == "alone" else 1))
+
+
+def may_boot(status: dict, life: Life | None, booting: str) -> bool:
+    """Whether the first guest may be booted at this host: none ever was, or this instance was about to, and was broken off before."""
+    return status["role"] == "empty" and (life is None or life.booting == booting)
 
 
 def why_not(status: dict, life: Life | None) -> str | None:
@@ -45,9 +52,27 @@ def why_not(status: dict, life: Life | None) -> str | None:
     return None
 
 
+def behind(true: Life, life: Life | None) -> str | None:
+    """Why the property mustn't say this of a guest, if so: it went on in a later generation, at the other host."""
+    if life is None or life.name != true.name or life.generation <= true.generation:
+        return None
+    return (f"the guest here is of generation {true.generation}, and by the cluster's property it went on alone in {life.generation}: "
+            "what runs here is stale")
+
+
+def stale(status: dict, life: Life | None) -> str | None:
+    """Why a live host mustn't go on with its guest, if so."""
+    return behind(Life(status["life"], status["generation"]), life)
+
+
 def stalls(status: dict, seconds: float) -> bool:
     """Whether nothing comes from a live host's standby any more. While it takes the full checkpoint it acknowledges nothing."""
     unacknowledged = status["unacknowledged_ms"] / 1000
     if status["mode"] == "filling":
         return (status["silent_ms"] or 0) / 1000 > seconds or unacknowledged > FILLING_SECONDS
     return status["mode"] == "paired" and unacknowledged > seconds
+
+
+def is_left_half_filled(status: dict) -> bool:
+    """Whether it is a standby without a full checkpoint, whose live host is gone: nothing can become of it."""
+    return status["role"] == "standby" and not status["full"] and status["link"] == "down"

@@ -2,7 +2,11 @@
 import os
 import syslog
 
-SUCCESS, GENERIC, ARGUMENTS, UNIMPLEMENTED, PERMISSION, INSTALLED, CONFIGURED, NOT_RUNNING, PROMOTED = range(9)
+# CONFIGURED isn't among them: Pacemaker would stop each instance for it, the live one too, and what is wrong is so at one host, or can be
+# mended while the guest runs. INSTALLED keeps the pair from one host alone.
+SUCCESS, GENERIC, ARGUMENTS, UNIMPLEMENTED, PERMISSION, INSTALLED = range(6)
+NOT_RUNNING, PROMOTED = 7, 8
+DEGRADED = 190  # it runs, and something is wrong: Pacemaker shows it as a failure, and restarts nothing
 
 
 class Failure(Exception):
