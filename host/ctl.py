@@ -4,7 +4,7 @@ import os
 import socket
 import sys
 
-from host import settings
+from host import managed, settings
 
 DONE, REFUSED, BAD, NO_ANSWER = range(4)
 VERBS = {
@@ -100,6 +100,8 @@ def run(plan):
         said(plan, answer)
     except BrokenPipeError:
         os.dup2(os.open(os.devnull, os.O_WRONLY), sys.stdout.fileno())
+    if answer["ok"] and (warning := managed.warning(plan.verb)):
+        print(f"remus-host: {warning}", file=sys.stderr)
     return DONE if answer["ok"] else REFUSED
 
 
