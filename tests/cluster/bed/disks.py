@@ -12,6 +12,7 @@ from bed import network
 ROOT = Path(__file__).resolve().parents[3]
 HERE = Path(__file__).resolve().parent
 PARTS = ("usr", "etc", "var")
+ALARM = '#!/bin/sh\necho "$1" >>/var/log/alarms\n'  # what the alert of the pair tells its sentences
 DC_SECONDS = 2  # how long the first node waits for another one's word; Pacemaker's 20 s are for machines that boot slowly
 
 
@@ -63,6 +64,7 @@ def configuration(delay, switch):
     options = root.find("./crm_config/cluster_property_set")
     options.find("./nvpair[@name='priority-fencing-delay']").set("value", delay)
     xml.SubElement(options, "nvpair", id="opt-dc", name="dc-deadtime", value=f"{DC_SECONDS}s")
+    xml.SubElement(root.find("./alerts/alert"), "recipient", id="told", value="/usr/sbin/note_alarm")
     for number, host in enumerate(network.NUMBERS, 1):
         xml.SubElement(root.find("nodes"), "node", id=str(number), uname=host)
     whole = xml.Element("cib", {"crm_feature_set": "3.16.1", "validate-with": "pacemaker-3.9", "epoch": "1", "num_updates": "0",
@@ -117,6 +119,8 @@ def configure(folder, guest, node, token, delay):
     for host in network.NUMBERS:
         disk = folder / host
         write(disk / "usr/sbin/fence_bed", (HERE / "fence_bed").read_bytes(), 0o755)
+        write(disk / "usr/sbin/note_alarm", ALARM, 0o755)
+        write(disk / "var/log/alarms", "", 0o666)
         write(disk / "etc/hosts", "127.0.0.1 localhost\n" + "".join(f"{address} {name}\n" for name, address in network.ADDRESS.items()))
         write(disk / "etc/corosync/corosync.conf", corosync(token))
         write(disk / "etc/corosync/authkey", authkey, 0o400)

@@ -140,6 +140,43 @@ class Bed:
                 nodes[attributes.get("name")]["score"] = attribute.get("value")
         return nodes
 
+    def failure(self, host: str, node: str) -> str:
+        """The reason of an action of the pair that failed at a node, as that host's Pacemaker shows it; empty where none did."""
+        shown = self.on(host, "crm_mon", "--one-shot", "--output-as=xml")
+        found = xml.fromstring(shown.stdout).iterfind("./failures/failure") if shown.returncode == 0 else ()
+        return "; ".join(one.get("exitreason") or "no reason" for one in found
+                         if one.get("node") == node and one.get("op_key", "").startswith("pair_"))
+
+    def attribute(self, host: str, node: str, name: str) -> str | None:
+        """An attribute of a node, as that host's Pacemaker shows it."""
+        shown = self.on(host, "crm_mon", "--one-shot", "--output-as=xml")
+        if shown.returncode != 0:
+            return None
+        found = xml.fromstring(shown.stdout).find(f"./node_attributes/node[@name='{node}']/attribute[@name='{name}']")
+        return None if found is None else found.get("value")
+
+    def alarms(self, host: str) -> list[str]:
+        """What the alert's recipient was told there."""
+        try:
+            return (self.folder / host / "var/log/alarms").read_text().splitlines()
+        except FileNotFoundError:
+            return []
+
+    def agent(self, host: str, action: str) -> int | None:
+        """The agent's process that does this at a host, as this machine numbers it."""
+        wanted = b"__main__.py\0" + action.encode() + b"\0"
+        for pid in self.power.processes(host):
+            try:
+                if wanted in Path(f"/proc/{pid}/cmdline").read_bytes():
+                    return pid
+            except OSError:
+                pass
+        return None
+
+    def live_is(self, host: str) -> bool:
+        """Whether that host is live, whatever the other one is."""
+        return self.status(host)["role"] == "live"
+
     def coordinator(self, host):
         """The host whose Pacemaker decides for both, as that host sees it."""
         return xml.fromstring(self.on(host, "crm_mon", "--one-shot", "--output-as=xml").stdout).find("./summary/current_dc").get("name")

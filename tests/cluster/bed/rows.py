@@ -6,7 +6,7 @@ import subprocess
 import threading
 import time
 
-from bed import disks, network
+from bed import disks, network, ordinary
 from bed.guests import COUNTER, WEB
 from bed.machines import EVENTS, TooLate, sent, two_at_once
 
@@ -278,7 +278,7 @@ def both(row, times):
             bed.power.off(host)
             bed.power.on(host)
         bed.until(lambda: all(bed.status(host)["role"] == "empty" for host in network.NUMBERS), 40, "two empty hosts")
-        time.sleep(5)
+        ordinary.lost(row, "one")
         row.expect([bed.status(host)["role"] for host in network.NUMBERS] == ["empty", "empty"], "a host isn't empty")
         row.expect(not any(at > begin for at, _ in bed.terms()), "a host went live")
         bed.on("one", "crm_attribute", "--type", "crm_config", "--name", "pair-life", "--delete")
@@ -286,6 +286,9 @@ def both(row, times):
         now, _ = bed.pair()
         row.note("a new guest and its standby after the operator's word", time.time() - told)
         row.expect(bed.status(now)["life"] not in (None, life), "the guest isn't a new one")
+        bed.until(lambda: not any(bed.attribute(now, host, "pair-wrong") for host in network.NUMBERS), 20, "no word of a loss")
+        ordinary.cleaned_up(bed, now)
+        bed.until(lambda: not any(bed.failure(now, host) for host in network.NUMBERS), 20, "a cluster that shows no failure")
 
 
 def unanswered(clients):
@@ -385,6 +388,9 @@ ROWS = {
     "power": (power, {"web": 4, "bank": 20}), "split": (split, {"bank": 10}), "standby-power": (standby_power, {"bank": 2}),
     "hang": (hang, {"bank": 2}), "wakes": (wakes, {"bank": 3}), "killed": (killed, {"bank": 1}), "both": (both, {"bank": 1}),
     "link": (link, {"bank": 1}), "no-fencing": (no_fencing, {"bank": 1}), "move": (move, {"bank": 2}), "upgrade": (upgrade, {"bank": 1}),
+    "refused": (ordinary.refused, {"web": 1}), "parameter": (ordinary.parameter, {"web": 1}), "slow": (ordinary.slow, {"web": 1}),
+    "promote": (ordinary.promote, {"web": 1}), "by-hand": (ordinary.by_hand, {"web": 1}), "snapshot": (ordinary.snapshot, {"web": 1}),
+    "stale": (ordinary.stale, {"web": 1}), "certificates": (ordinary.certificates, {"web": 1}),
 }
 
 
