@@ -87,7 +87,7 @@ cp -r "$here/../server" "$here/../lib" "$room"
 cd "$room"
 sources="secret.c server/server.c server/disk.c server/network.c server/reopen.c one/sqlite3.c"
 for name in guest log vfs locks text digest password scram statement session work query rows messages parameters trigger extended postgres \
-    request table page http connections; do
+    request table page door http connections; do
     sources="$sources sql/$name.c"
 done
 if [ "${COUNTER:-}" = 1 ]; then

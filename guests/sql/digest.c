@@ -42,11 +42,6 @@ void digest_of(const void *bytes, uint32_t count, uint8_t answer[DIGEST]) {
     digest_end(&digest, answer);
 }
 
-/* The two digests of HMAC after their first blocks, which a key makes. */
-struct keyed {
-    struct digest inner, outer;
-};
-
 static void keyed_start(struct keyed *keyed, const void *key, uint32_t length) {
     uint8_t block[BLOCK] = {0}, padded[BLOCK];
     if (length > BLOCK)
@@ -77,19 +72,23 @@ void keyed_digest(const void *key, uint32_t key_length, const void *bytes, uint3
     keyed_end(&keyed, bytes, count, answer);
 }
 
-void stretched(const void *password, uint32_t length, const void *salt, uint32_t salt_length, int rounds, uint8_t answer[DIGEST]) {
-    struct keyed keyed, first;
-    uint8_t turn[DIGEST];
-    keyed_start(&keyed, password, length);
-    first = keyed;
+void stretch_start(struct stretching *stretching, const void *password, uint32_t length, const void *salt, uint32_t salt_length,
+                   int rounds) {
+    keyed_start(&stretching->keyed, password, length);
+    struct keyed first = stretching->keyed;
     digest_add(&first.inner, salt, salt_length);
-    keyed_end(&first, "\0\0\0\1", 4, turn);
-    memcpy(answer, turn, DIGEST);
-    for (int i = 1; i < rounds; i++) {
-        keyed_end(&keyed, turn, DIGEST, turn);
-        for (int j = 0; j < DIGEST; j++)
-            answer[j] ^= turn[j];
+    keyed_end(&first, "\0\0\0\1", 4, stretching->turn);
+    memcpy(stretching->answer, stretching->turn, DIGEST);
+    stretching->left = rounds - 1;
+}
+
+int stretch(struct stretching *stretching, int rounds) {
+    for (; rounds > 0 && stretching->left > 0; rounds--, stretching->left--) {
+        keyed_end(&stretching->keyed, stretching->turn, DIGEST, stretching->turn);
+        for (int i = 0; i < DIGEST; i++)
+            stretching->answer[i] ^= stretching->turn[i];
     }
+    return stretching->left == 0;
 }
 
 static const char digits[] = "ABCDEFGHIJKLMNOPQRSTUVWXYZabcdefghijklmnopqrstuvwxyz0123456789+/";

@@ -19,8 +19,22 @@ void digest_end(struct digest *digest, uint8_t answer[DIGEST]);
 void digest_of(const void *bytes, uint32_t count, uint8_t answer[DIGEST]);
 void keyed_digest(const void *key, uint32_t key_length, const void *bytes, uint32_t count, uint8_t answer[DIGEST]);
 
-/* The first block of PBKDF2 with HMAC-SHA-256. */
-void stretched(const void *password, uint32_t length, const void *salt, uint32_t salt_length, int rounds, uint8_t answer[DIGEST]);
+/* The two digests of HMAC after their first blocks, which a key makes. */
+struct keyed {
+    struct digest inner, outer;
+};
+
+/* The first block of PBKDF2 with HMAC-SHA-256, of which so many rounds are left. It is worked off a part at a time: `stretch` does at most
+   so many rounds, and answers whether none is left: `answer` is what came of it then. */
+struct stretching {
+    struct keyed keyed;
+    uint8_t turn[DIGEST], answer[DIGEST];
+    int left;
+};
+
+void stretch_start(struct stretching *stretching, const void *password, uint32_t length, const void *salt, uint32_t salt_length,
+                   int rounds);
+int stretch(struct stretching *stretching, int rounds);
 
 /* Writes base64 with its closing zero; `to` has room for 4 characters for each 3 bytes that are begun, and the zero. */
 void to_base64(const uint8_t *bytes, uint32_t count, char *to);

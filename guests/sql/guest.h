@@ -4,6 +4,7 @@
 
 #include "connections.h"
 #include "counter.h"
+#include "door.h"
 #include "session.h"
 
 /* Reads the disk, and plays a journal back that is left there. Answers whether the disk can be used. */
@@ -16,6 +17,9 @@ static inline void guest_listen(void) {
 #endif
 }
 
-static inline void guest_poll(void) { sessions_poll(); }
+static inline void guest_poll(void) {
+    sessions_poll();
+    door_poll();
+}
 
 #endif

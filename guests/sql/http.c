@@ -2,9 +2,9 @@
 
 #include <string.h>
 
+#include "door.h"
 #include "log.h"
 #include "page.h"
-#include "password.h"
 #include "query.h"
 #include "request.h"
 #include "table.h"
@@ -21,6 +21,10 @@ struct browser {
     struct text body;       /* of the answer */
     int status;
     struct failure failure; /* where the status isn't 200 */
+    struct visitor visitor;
+    uint32_t taken;         /* bytes of what came that are dealt with */
+    uint32_t unread;        /* bytes of a body that is passed over, after which the connection ends */
+    int is_let_in;          /* the request, of which the body is still to come */
     int is_told_to_go_on;   /* it was said that the body is wanted */
     int is_silent;          /* the client says no more */
 };
@@ -40,6 +44,7 @@ static const char *reason(int status) {
     case 405: return "405 Method Not Allowed";
     case 411: return "411 Length Required";
     case 413: return "413 Content Too Large";
+    case 429: return "429 Too Many Requests";
     case 431: return "431 Request Header Fields Too Large";
     default: return "503 Service Unavailable";
     }
@@ -55,6 +60,7 @@ static void answer(struct browser *browser, int status, const char *type, const 
     add(out, browser->request.is_kept ? "" : "\r\nConnection: close");
     add(out, status == 204 || status == 405 ? "\r\nAllow: " METHODS : "");
     add(out, status == 401 ? "\r\nWWW-Authenticate: Basic realm=\"sql\"" : "");
+    add(out, status == 429 ? "\r\nRetry-After: 10" : "");
     add(out, "\r\nCache-Control: no-store");
     if (status != 204) {
         add(out, "\r\nContent-Type: ");
@@ -67,7 +73,7 @@ static void answer(struct browser *browser, int status, const char *type, const 
         add_bytes(out, bytes, length);
     if (out->is_full)
         text_cut(out, begun);
-    session->is_ending |= !browser->request.is_kept || out->length == begun;
+    session->is_ending |= (!browser->request.is_kept && browser->unread == 0) || out->length == begun;
 }
 
 static void refuse(struct browser *browser, int status, const char *why) {
@@ -114,6 +120,14 @@ static void say_failure(struct browser *browser) {
     }
 }
 
+static void answer_question(struct browser *browser) {
+    if (browser->status != 200)
+        say_failure(browser);
+    answer(browser, browser->status, browser->request.is_json ? "application/json" : "text/plain", browser->body.bytes,
+           browser->body.length);
+    text_drop(&browser->body);
+}
+
 /* A question is a whole of its own: a transaction that it leaves open is rolled back. */
 static void is_over(struct session *session) {
     struct browser *browser = of(session);
@@ -131,17 +145,20 @@ static void is_over(struct session *session) {
         browser->status = 503;
         set_failure(&browser->failure, "53200", "out of memory for the answer; what was asked for is done");
     }
-    if (browser->status != 200)
-        say_failure(browser);
-    answer(browser, browser->status, browser->request.is_json ? "application/json" : "text/plain", browser->body.bytes,
-           browser->body.length);
-    text_drop(&browser->body);
+    answer_question(browser);
 }
 
 static const struct teller teller = {take_row, has_ended_query, has_warned, has_failed_query, is_over};
 
 static void ask(struct browser *browser, const char *statements, uint32_t length, int only_reads) {
     browser->status = 200;
+    if (!is_utf8(statements, length)) {
+        browser->status = 400;
+        set_failure(&browser->failure, "22021", NOT_UTF8);
+        browser->body = (struct text){.most = MOST_ANSWER};
+        answer_question(browser);
+        return;
+    }
     if (!text_start(&browser->body, MOST_ANSWER)) {
         refuse(browser, 503, "error: out of memory\n");
         return;
@@ -180,26 +197,6 @@ static void take_question(struct browser *browser, const char *body) {
     sqlite3_free(decoded);
 }
 
-/* Whether the client has the password. One that was right is known again by its digest, since the way there is long. */
-static int is_let_in_by_password(const struct request *request) {
-    static uint8_t right[DIGEST];
-    static int is_known;
-    uint8_t digest[DIGEST], bytes[MOST_VALUE];
-    if (!password.is_set)
-        return 1;
-    int length = from_base64(request->password, (uint32_t)strlen(request->password), bytes, sizeof bytes);
-    const uint8_t *colon = length <= 0 ? NULL : memchr(bytes, ':', (size_t)length);
-    if (colon == NULL)
-        return 0;
-    keyed_digest(password.server_key, DIGEST, colon + 1, (uint32_t)(bytes + length - colon - 1), digest);
-    if (is_known && are_same(digest, right, DIGEST))
-        return 1;
-    if (!is_password(colon + 1, (uint32_t)(bytes + length - colon - 1)))
-        return 0;
-    memcpy(right, digest, DIGEST);
-    return is_known = 1;
-}
-
 static void say_log(struct browser *browser) {
     const char *lines = log_lines()[0] == '\0' ? "nothing was said\n" : log_lines();
     answer(browser, 200, "text/plain", lines, (uint32_t)strlen(lines));
@@ -209,12 +206,6 @@ static void take_request(struct browser *browser, const char *body) {
     const struct request *request = &browser->request;
     if (request->method == OPTIONS)
         answer(browser, 204, NULL, NULL, 0);
-    else if (request->method == OTHER)
-        refuse(browser, 405, "GET, HEAD, POST and OPTIONS are served\n");
-    else if (request->is_strange)
-        refuse(browser, 403, "a page of another place may not ask\n");
-    else if (!is_let_in_by_password(request))
-        refuse(browser, 401, "a password is asked for\n");
     else if (strcmp(request->path, "/sql") == 0)
         take_question(browser, body);
     else if (strcmp(request->path, "/") == 0 && request->method != POST)
@@ -227,43 +218,92 @@ static void take_request(struct browser *browser, const char *body) {
 
 /* The connection. */
 
-/* Refuses what can't be read, after which nothing can. */
-static void end_with(struct browser *browser, int status) {
+/* Refuses a request, whose body isn't taken in, and ends the connection after it. */
+static void end_with(struct browser *browser, int status, const char *why, uint32_t body) {
+    uint32_t left = browser->session.in.length - browser->taken;
     browser->request.is_kept = 0;
-    refuse(browser, status, status == 413 ? "a question has more than 262144 bytes\n" : "that is no request that is served here\n");
-    text_cut(&browser->session.in, 0);
+    browser->unread = body > left ? body - left : 0;
+    browser->taken = browser->session.in.length;
+    refuse(browser, status, why);
+}
+
+/* Lets a request in by its head alone, before its body takes memory. Answers whether it is let in; where the session waits it may be
+   yet. */
+static int let_in(struct browser *browser) {
+    const struct request *request = &browser->request;
+    uint32_t whole = request->head + request->length;
+    if (request->method == OTHER) {
+        end_with(browser, 405, "GET, HEAD, POST and OPTIONS are served\n", whole);
+        return 0;
+    }
+    if (request->is_strange && strcmp(request->path, "/sql") == 0) {
+        end_with(browser, 403, "a page of another place may not ask; a browser asks from the page at /\n", whole);
+        return 0;
+    }
+    if (request->method == OPTIONS)
+        return 1;
+    enum verdict verdict = door_ask(&browser->visitor, &browser->session, request->password);
+    browser->session.is_known |= verdict == RIGHT;
+    if (verdict == WRONG)
+        end_with(browser, 401, "a password is asked for\n", whole);
+    else if (verdict == TOO_MANY)
+        end_with(browser, 429, "too many passwords are looked at already\n", whole);
+    return verdict == RIGHT;
+}
+
+/* The status of a head that came, or hasn't come whole and is too long, and why it is refused; 0 where it isn't. */
+static int status_of(struct browser *browser, uint32_t head, uint32_t left) {
+    if (head == 0)
+        return left > MOST_HEAD ? 431 : 0;
+    int status = read_request(browser->session.in.bytes + browser->taken, head, &browser->request);
+    return status == 0 && browser->request.length > MOST_ASKED ? 413 : status;
 }
 
 /* Takes the next request, if it has come whole. Answers whether it had. */
 static int take_next(struct browser *browser) {
     struct session *session = &browser->session;
-    struct text *in = &session->in;
-    uint32_t head = head_of(in->bytes, in->length);
-    int status = head == 0 ? 0 : read_request(in->bytes, head, &browser->request);
-    if (head == 0 && in->length > MOST_HEAD)
-        status = 431;
-    if (head != 0 && status == 0 && browser->request.length > MOST_ASKED)
-        status = 413;
-    if (status != 0)
-        end_with(browser, status);
-    if (head == 0 || status != 0)
+    const char *from = session->in.bytes + browser->taken;
+    uint32_t left = session->in.length - browser->taken, head = head_of(from, left);
+    int status = status_of(browser, head, left);
+    if (status != 0) {
+        if (status == 413)
+            end_with(browser, status, "a question has more than 262144 bytes\n", head + browser->request.length);
+        else
+            end_with(browser, status, "that is no request that is served here\n", 0);
         return 0;
-    if (in->length - head < browser->request.length) {
+    }
+    if (head == 0 || !(browser->is_let_in || (browser->is_let_in = let_in(browser))))
+        return 0;
+    if (left - head < browser->request.length) {
         if (browser->request.is_expecting && !browser->is_told_to_go_on)
             add(&session->out, "HTTP/1.1 100 Continue\r\n\r\n");
         browser->is_told_to_go_on = 1;
         return 0;
     }
-    browser->is_told_to_go_on = 0;
-    take_request(browser, in->bytes + head);
-    text_shift(in, head + browser->request.length);
+    browser->is_told_to_go_on = browser->is_let_in = 0;
+    browser->taken += head + browser->request.length;
+    take_request(browser, from + head);
     return 1;
 }
 
+/* Passes over what is left of a body that isn't wanted. The client has it sent before it reads why. */
+static void pass_over(struct browser *browser) {
+    struct session *session = &browser->session;
+    uint32_t count = browser->unread < session->in.length ? browser->unread : session->in.length;
+    browser->unread -= count;
+    browser->taken = session->in.length;
+    session->is_ending |= browser->unread == 0;
+}
+
 static void take(struct session *session) {
-    while (!session->is_ending && !session->is_waiting && take_next(of(session)))
+    struct browser *browser = of(session);
+    browser->taken = 0;
+    if (browser->unread > 0)
+        pass_over(browser);
+    while (browser->unread == 0 && !session->is_ending && !session->is_waiting && session_has_room(session) && take_next(browser))
         ;
-    session->is_ending |= of(session)->is_silent && !session->is_waiting;
+    text_shift(&session->in, browser->taken);
+    session->is_ending |= browser->is_silent && !session->is_waiting && !session->is_held;
 }
 
 static void go_on(struct session *session) {
@@ -276,10 +316,11 @@ static void go_on(struct session *session) {
 /* What was asked whole is answered; a body that was cut short is left. */
 static void end_of_input(struct session *session) {
     of(session)->is_silent = 1;
-    session->is_ending |= !session->is_waiting;
+    session->is_ending |= !session->is_waiting && !session->is_held;
 }
 
 static void drop(struct session *session) {
+    door_leave(&of(session)->visitor);
     query_drop(&of(session)->query);
     text_drop(&of(session)->body);
 }

@@ -16,7 +16,9 @@ struct password {
 
 extern const struct password password;
 
-/* Whether this is it. It takes as many digests as there are rounds, twice. */
-int is_password(const void *bytes, uint32_t count);
+/* Whether bytes are the password is found out by as many digests as there are rounds, twice: `password_start` begins, and when `stretch`
+   has come to its end `is_password` answers it. */
+void password_start(struct stretching *stretching, const void *bytes, uint32_t count);
+int is_password(const struct stretching *stretching);
 
 #endif

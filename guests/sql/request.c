@@ -58,8 +58,11 @@ static int read_line(const char *at, uint32_t length, struct request *request) {
     return 0;
 }
 
+/* Two lengths are two readings of where the next request begins, one of which a proxy may have. */
 static int read_length(const char *at, uint32_t length, struct request *request) {
-    request->length = 0;
+    if (request->has_length)
+        return 400;
+    request->has_length = 1;
     for (uint32_t i = 0; i < length; i++) {
         if (at[i] < '0' || at[i] > '9')
             return 400;
@@ -70,18 +73,52 @@ static int read_length(const char *at, uint32_t length, struct request *request)
     return length == 0 ? 400 : 0;
 }
 
-/* A field's value, without what it begins with. */
-static void keep(char to[MOST_VALUE], const char *at, uint32_t length, const char *front) {
-    uint32_t skipped = (uint32_t)strlen(front);
-    to[0] = '\0';
-    if (!begins(at, length, front) || length - skipped >= MOST_VALUE)
-        return;
-    memcpy(to, at + skipped, length - skipped);
-    to[length - skipped] = '\0';
+/* A field's value, or its front where it is long. */
+static void keep(char to[MOST_VALUE], const char *at, uint32_t length) {
+    uint32_t count = length < MOST_VALUE ? length : MOST_VALUE - 1;
+    memcpy(to, at, count);
+    to[count] = '\0';
+}
+
+/* What a browser says of who asks; empty where it isn't said. */
+struct asker {
+    char host[MOST_VALUE], origin[MOST_VALUE], referer[MOST_VALUE], site[MOST_VALUE];
+    int is_browser;
+};
+
+/* How long a place is, HOST or HOST:PORT, without the port that its scheme has anyway. */
+static uint32_t place_length(const char *place, const char *port) {
+    uint32_t length = (uint32_t)strcspn(place, "/?#"), tail = (uint32_t)strlen(port);
+    return length > tail && memcmp(place + length - tail, port, tail) == 0 ? length - tail : length;
+}
+
+/* Whether a URI is of the host that was asked. Behind a proxy its scheme may be https. */
+static int is_of_host(const char *uri, const char *host) {
+    uint32_t length = (uint32_t)strlen(uri);
+    int is_plain = begins(uri, length, "http://"), is_secret = begins(uri, length, "https://");
+    if (!is_plain && !is_secret)
+        return 0;
+    const char *place = uri + (is_plain ? 7 : 8), *port = is_plain ? ":80" : ":443";
+    uint32_t count = place_length(place, port);
+    return count > 0 && count == place_length(host, port) && sqlite3_strnicmp(place, host, (int)count) == 0;
+}
+
+/* Browsers send Sec-Fetch-Site to addresses that are protected, Origin where a page asks by POST, and Referer where the page doesn't forbid
+   it. No page can write any of them. Where a browser sends none it may be a page that asks. */
+static int is_strange(const struct asker *asker) {
+    if (asker->site[0] != '\0')
+        return strcmp(asker->site, "same-origin") != 0 && strcmp(asker->site, "none") != 0;
+    if (asker->origin[0] != '\0')
+        return !is_of_host(asker->origin, asker->host);
+    if (asker->referer[0] != '\0')
+        return !is_of_host(asker->referer, asker->host);
+    return asker->is_browser;
 }
 
 static int read_field(const char *name, uint32_t name_length, const char *at, uint32_t length, struct request *request,
-                      char origin[MOST_VALUE], char host[MOST_VALUE]) {
+                      struct asker *asker) {
+    if (name_length == 0 || memchr(name, ' ', name_length) != NULL || memchr(name, '\t', name_length) != NULL)
+        return 400;
     if (is(name, name_length, "Content-Length"))
         return read_length(at, length, request);
     if (is(name, name_length, "Transfer-Encoding"))
@@ -94,17 +131,26 @@ static int read_field(const char *name, uint32_t name_length, const char *at, ui
         request->is_form = begins(at, length, "application/x-www-form-urlencoded");
     else if (is(name, name_length, "Accept"))
         request->is_json = has(at, length, "application/json");
-    else if (is(name, name_length, "Authorization"))
-        keep(request->password, at, length, "Basic ");
+    else if (is(name, name_length, "Authorization") && begins(at, length, "Basic ") && length - 6 < MOST_VALUE)
+        keep(request->password, at + 6, length - 6);
     else if (is(name, name_length, "Origin"))
-        keep(origin, at, length, begins(at, length, "http://") ? "http://" : "");
+        keep(asker->origin, at, length);
+    else if (is(name, name_length, "Referer"))
+        keep(asker->referer, at, length);
+    else if (is(name, name_length, "Sec-Fetch-Site"))
+        keep(asker->site, at, length);
+    else if (is(name, name_length, "User-Agent"))
+        asker->is_browser = begins(at, length, "Mozilla/");
+    else if (is(name, name_length, "Host") && asker->host[0] != '\0')
+        return 400;
     else if (is(name, name_length, "Host"))
-        keep(host, at, length, "");
+        keep(asker->host, at, length);
     return 0;
 }
 
 int read_request(const char *bytes, uint32_t length, struct request *request) {
-    char origin[MOST_VALUE] = "", host[MOST_VALUE] = "";
+    struct asker asker;
+    memset(&asker, 0, sizeof asker);
     memset(request, 0, sizeof *request);
     request->head = length;
     int status = 0, is_first = 1;
@@ -121,13 +167,13 @@ int read_request(const char *bytes, uint32_t length, struct request *request) {
                 value++;
             while (line_end > value && (line_end[-1] == ' ' || line_end[-1] == '\t'))
                 line_end--;
-            status = read_field(at, (uint32_t)(colon - at), value, (uint32_t)(line_end - value), request, origin, host);
+            status = read_field(at, (uint32_t)(colon - at), value, (uint32_t)(line_end - value), request, &asker);
         } else if (line_end > at) {
             status = 400;
         }
         at = next;
     }
-    request->is_strange = origin[0] != '\0' && sqlite3_stricmp(origin, host) != 0;
+    request->is_strange = is_strange(&asker);
     return status;
 }
 

@@ -16,12 +16,13 @@ struct request {
     uint32_t asked_length;
     uint32_t head;         /* bytes of the head, with the blank line */
     uint32_t length;       /* of the body */
+    int has_length;        /* that is told */
     int is_kept;           /* the connection stays after the answer */
     int is_expecting;      /* the client waits to be told that its body is wanted */
     int is_form;           /* the body is a form's */
     int is_json;           /* the answer is to be JSON */
     char password[MOST_VALUE]; /* what stands after 'Basic ', in base64; empty where there is none */
-    int is_strange;        /* a page of another place asks */
+    int is_strange;        /* a page of another place asks, or may: nothing shows that none does */
 };
 
 /* Reads a head that has come whole. Answers 0, or the status of why it is refused. */

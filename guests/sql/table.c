@@ -18,6 +18,15 @@ void add_row(struct text *text, sqlite3_stmt *prepared) {
     add(text, "\n");
 }
 
+/* A character, or, in place of a byte that begins none, the one that stands for what can't be read. Answers how many bytes it had. */
+static uint32_t add_character(struct text *text, const char *bytes, uint32_t count) {
+    uint32_t length = character(bytes, count);
+    if (length == 0)
+        add(text, "\xef\xbf\xbd");
+    add_bytes(text, bytes, length);
+    return length == 0 ? 1 : length;
+}
+
 void add_json_string(struct text *text, const char *bytes, uint32_t count) {
     static const char digits[] = "0123456789abcdef";
     add(text, "\"");
@@ -30,7 +39,7 @@ void add_json_string(struct text *text, const char *bytes, uint32_t count) {
         else if (c < 0x20)
             add_bytes(text, (char[]){'\\', 'u', '0', '0', digits[c >> 4], digits[c & 15]}, 6);
         else
-            add_bytes(text, bytes + i, 1);
+            i += add_character(text, bytes + i, count - i) - 1;
     }
     add(text, "\"");
 }

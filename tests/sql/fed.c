@@ -4,6 +4,7 @@
      open PLACE PORT    a connection to a port of the guest's
      take PLACE HEX     these bytes come
      end PLACE          the client says no more
+     look PLACE         nothing
      later N            N milliseconds go by
      turn               a turn of the guest's loop
 
@@ -13,13 +14,14 @@
 #include <string.h>
 #include <unistd.h>
 
+#include "../../guests/sql/door.h"
 #include "../../guests/sql/http.h"
 #include "../../guests/sql/log.h"
 #include "../../guests/sql/postgres.h"
 #include "disk.h"
 
 #define MOST 1048576
-#define PLACES 8
+#define PLACES 16
 #define WATCHDOG 10 /* seconds */
 
 static struct place {
@@ -80,6 +82,7 @@ static void do_to(struct place *place, const char *what, const char *with) {
 
 static void turn(void) {
     sessions_poll();
+    door_poll();
     for (int i = 0; i < PLACES; i++)
         if (places[i].session != NULL)
             carry(places[i].session);

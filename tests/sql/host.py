@@ -19,7 +19,7 @@ FILES = ["vfs", "locks"]
 SANITIZERS = ["-g", "-fsanitize=address,undefined", "-fno-sanitize-recover=all"]
 UNITS = ["digest", "locks", "statement", "request"]
 SESSIONS = ["text", "log", "digest", "password", "scram", "statement", "session", "work", "query", "rows", "messages", "parameters",
-            "trigger", "extended", "postgres", "request", "table", "page", "http"]
+            "trigger", "extended", "postgres", "request", "table", "page", "door", "http"]
 
 
 def library() -> str:

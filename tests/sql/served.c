@@ -13,6 +13,7 @@
 #include <sys/socket.h>
 #include <unistd.h>
 
+#include "../../guests/sql/door.h"
 #include "../../guests/sql/http.h"
 #include "../../guests/sql/log.h"
 #include "../../guests/sql/postgres.h"
@@ -149,7 +150,7 @@ static void serve(const int listeners[2]) {
                 places[count] = i;
                 watched[count++] = (struct pollfd){descriptor_of(sessions[i]), events, 0};
             }
-        poll(watched, (nfds_t)count, 100);
+        poll(watched, (nfds_t)count, 1);
         if (watched[0].revents != 0)
             return;
         for (int i = 3; i < count; i++) {
@@ -163,6 +164,7 @@ static void serve(const int listeners[2]) {
             if (watched[1 + i].revents != 0)
                 accept_one(listeners[i], services[i]);
         sessions_poll();
+        door_poll();
     }
 }
 

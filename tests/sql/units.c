@@ -29,6 +29,15 @@ static void print(const uint8_t *bytes, uint32_t count) {
     printf("\n");
 }
 
+/* All rounds, some at a time. */
+static void stretched(const void *password, uint32_t length, const void *salt, uint32_t salt_length, int rounds, uint8_t answer[DIGEST]) {
+    struct stretching stretching;
+    stretch_start(&stretching, password, length, salt, salt_length, rounds);
+    while (!stretch(&stretching, 7))
+        ;
+    memcpy(answer, stretching.answer, DIGEST);
+}
+
 static void digests(const char *name, char *words[]) {
     uint8_t answer[DIGEST];
     uint32_t count = bytes_of(words[0], one), more = bytes_of(words[1], other);

@@ -45,6 +45,21 @@ STATEMENTS = [
     ("SELECT 'open", PLAIN, "SELECT", 1, "", "", None), ("SELECT /* open ;", PLAIN, "SELECT", 1, "", "", None),
 ]
 GET, HEAD, POST, OPTIONS, OTHER = range(5)
+BROWSER = "User-Agent: Mozilla/5.0 (X11)"
+# Who asks, and whether it is or may be a page of another place.
+ASKERS = [
+    ("Host: a\r\nOrigin: https://a", False), ("Host: a:443\r\nOrigin: https://a", False), ("Host: a\r\nOrigin: http://a:80", False),
+    ("Host: a\r\nOrigin: https://a:8443", True), ("Host: a:80\r\nOrigin: https://a", True), ("Host: a\r\nOrigin: ftp://a", True),
+    ("Host: a\r\nOrigin: https://a.b", True), ("Host: a.b\r\nOrigin: https://a", True), ("Origin: http://a", True),
+    ("Host: A\r\nOrigin: http://a", False), ("Host: [::1]:80\r\nOrigin: http://[::1]", False), ("Host: a\r\nOrigin: http://", True),
+    ("Host: a\r\nOrigin: http://" + "a" * 600, True),
+    (f"Host: a\r\n{BROWSER}", True), (f"Host: a\r\n{BROWSER}\r\nReferer: http://a/x?y", False),
+    (f"Host: a\r\n{BROWSER}\r\nReferer: http://b/a", True), (f"Host: a\r\n{BROWSER}\r\nReferer: https://a", False),
+    (f"Host: a\r\n{BROWSER}\r\nSec-Fetch-Site: none", False), (f"Host: a\r\n{BROWSER}\r\nSec-Fetch-Site: cross-site", True),
+    (f"Host: a\r\n{BROWSER}\r\nSec-Fetch-Site: same-site", True),
+    ("Host: inside\r\nOrigin: https://outside\r\nSec-Fetch-Site: same-origin", False),
+    ("Host: a\r\nOrigin: http://a\r\nSec-Fetch-Site: cross-site", True), ("Host: a\r\nUser-Agent: curl/7.88", False),
+]
 # A head; what it comes to: the bytes of the head, the method, the path, the length of q and q, the body's length, five flags (kept,
 # expecting, form, JSON, strange), and the password; or the status of its refusal (-1: it hasn't come whole).
 REQUESTS = [
@@ -58,7 +73,13 @@ REQUESTS = [
     ("GET / HTTP/1.1\r\nAuthorization: Basic YTpi\r\n\r\n", "45 0 / -1|0 10000 YTpi"),
     ("GET / HTTP/1.1\r\nHost: a:80\r\nOrigin: http://a:80\r\n\r\n", "51 0 / -1|0 10000 "),
     ("GET / HTTP/1.1\r\nHost: a:80\r\nOrigin: http://b\r\n\r\n", "48 0 / -1|0 10001 "),
-    ("GET / HTTP/1.1\r\nHost: a:80\r\nOrigin: null\r\n\r\n", "44 0 / -1|0 10001 "), ("GET / HTTP/1.1\r\n", "-1"), ("", "-1"),
+    ("GET / HTTP/1.1\r\nHost: a:80\r\nOrigin: null\r\n\r\n", "44 0 / -1|0 10001 "),
+    *((f"GET / HTTP/1.1\r\n{fields}\r\n\r\n", f"{len(fields) + 20} 0 / -1|0 1000{int(is_strange)} ") for fields, is_strange in ASKERS),
+    ("POST / HTTP/1.1\r\nContent-Length: 1\r\nContent-Length: 1\r\n\r\n", "400"),
+    ("POST / HTTP/1.1\r\nContent-Length: 1\r\nContent-length: 2\r\n\r\n", "400"),
+    ("POST / HTTP/1.1\r\nContent-Length: 1, 1\r\n\r\n", "400"), ("POST / HTTP/1.1\r\nContent-Length : 1\r\n\r\n", "400"),
+    ("GET / HTTP/1.1\r\nHost: a\r\nHost: b\r\n\r\n", "400"), ("GET / HTTP/1.1\r\nX: a\r\n b: c\r\n\r\n", "400"),
+    ("GET / HTTP/1.1\r\n: x\r\n\r\n", "400"), ("GET / HTTP/1.1\r\n", "-1"), ("", "-1"),
     ("GET /\r\n\r\n", "400"), ("GET / HTTP/2.0\r\n\r\n", "400"), ("x\r\n\r\n", "400"), ("GET / HTTP/1.1\r\nno colon\r\n\r\n", "400"),
     ("POST / HTTP/1.1\r\nContent-Length: -1\r\n\r\n", "400"), ("POST / HTTP/1.1\r\nContent-Length: \r\n\r\n", "400"),
     ("POST / HTTP/1.1\r\nContent-Length: 99999999999\r\n\r\n", "413"), ("POST / HTTP/1.1\r\nTransfer-Encoding: chunked\r\n\r\n", "411"),
