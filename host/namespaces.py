@@ -2,6 +2,7 @@
 link's network, 10.1.0.1 or 10.1.0.2, and a bridge br0 on the guest's network, where the client is 10.0.0.2."""
 import ctypes
 import os
+import re
 import subprocess
 from pathlib import Path
 
@@ -32,6 +33,17 @@ def cannot():
         return "there is no ip (Debian's iproute2)"
     wrong = made.stderr or tried.stderr
     return f"namespaces can't be made here ({wrong.strip()})" if wrong else None
+
+
+def of_this_run(kind: str) -> str:
+    """The beginning of the names of namespaces that this process makes, so that two runs at once have different ones. Those that runs left
+    which were killed are deleted."""
+    there = os.listdir("/run/netns") if os.path.isdir("/run/netns") else []
+    for name in there:
+        found = re.fullmatch(re.escape(kind) + r"(\d+)-\w+", name)
+        if found and not os.path.exists(f"/proc/{found[1]}"):
+            ip("netns", "del", name, check=False)
+    return f"{kind}{os.getpid()}-"
 
 
 class Networks:
