@@ -180,8 +180,8 @@ def snapshot(row, times: int) -> None:
 
 
 def stale(row, times: int) -> None:
-    """The fence device is a switch port: it cuts the live host off, and the other one goes on. Then the first one is plugged in again, with
-    all that runs there; it can't have the good one fenced, since the device doesn't answer just then."""
+    """The fence device is a switch port: it cuts off the live host, which hangs, and the other one goes on. The first one wakes, and is
+    plugged in again, with all that runs there; it can't have the good one fenced, since the device doesn't answer just then."""
     bed = row.bed
     for row.tries in range(1, times + 1):
         live, standby = bed.pair()
@@ -189,9 +189,10 @@ def stale(row, times: int) -> None:
         bed.power.kills = False
         with row.clients() as clients:
             begin = time.time()
-            network.pull(live)
+            bed.power.signal_all(live, signal.SIGSTOP)
             bed.until(lambda: bed.live_is(standby), 30, "the other host live")
-            bed.until(lambda: bed.status(standby)["mode"] == "alone", 30, "a live host that is alone")
+            bed.power.signal_all(live, signal.SIGCONT)
+            bed.until(lambda: bed.live_is(live), 30, "a host that woke")
             time.sleep(2)
             generation = bed.status(standby)["generation"]
             bed.power.answers = False
