@@ -1,4 +1,5 @@
 """One connection of the link: TCP, or TLS 1.3 over it, without ever waiting."""
+import re
 import socket
 import ssl
 
@@ -16,7 +17,7 @@ class Closed(Exception):
 
 
 class Connection:
-    """`context` is None for a plain one. `pinned` is the certificate that the other end must have, as DER."""
+    """`context` is None for a plain one. `pinned` are the certificates one of which the other end must have, as DER."""
 
     def __init__(self, tcp, context, pinned, now, is_server):
         tcp.setblocking(False)
@@ -70,7 +71,7 @@ class Connection:
             return
         except (OSError, ValueError) as error:
             raise Closed(f"the handshake failed: {reason(error)}") from None
-        if self.socket.getpeercert(binary_form=True) != self.pinned:
+        if self.socket.getpeercert(binary_form=True) not in self.pinned:
             raise Closed("the handshake failed: another certificate than the pinned one")
         self.is_open = True
 
@@ -155,9 +156,9 @@ def reason(error):
 
 
 def contexts(settings):
-    """The TLS contexts to listen and to dial with, and the pinned certificate as DER; all None for a plain link. Raises OSError."""
+    """The TLS contexts to listen and to dial with, and the pinned certificates; none for a plain link. Raises OSError, ValueError."""
     if settings.plain or settings.listen is None:
-        return None, None, None
+        return None, None, frozenset()
     made = []
     for protocol in (ssl.PROTOCOL_TLS_SERVER, ssl.PROTOCOL_TLS_CLIENT):
         context = ssl.SSLContext(protocol)
@@ -166,11 +167,20 @@ def contexts(settings):
         context.verify_mode = ssl.CERT_REQUIRED
         context.load_cert_chain(settings.certificate, settings.key)
         context.load_verify_locations(settings.peer_certificate)
+        context.verify_flags |= ssl.VERIFY_X509_PARTIAL_CHAIN  # the certificate itself, where another one has its name
         if protocol is ssl.PROTOCOL_TLS_SERVER:
             context.num_tickets = 0  # no session is resumed: each link is authenticated anew
         made.append(context)
-    with open(settings.peer_certificate) as file:
-        return made[0], made[1], ssl.PEM_cert_to_DER_cert(file.read())
+    return made[0], made[1], pinned(settings.peer_certificate)
+
+
+def pinned(path):
+    """The certificates of a file, as DER: one, or two while the peer's is renewed. Raises OSError, ValueError."""
+    with open(path) as file:
+        found = re.findall(f"{ssl.PEM_HEADER}.*?{ssl.PEM_FOOTER}", file.read(), re.S)
+    if not found:
+        raise ValueError(f"{path} has no certificate")
+    return frozenset(map(ssl.PEM_cert_to_DER_cert, found))
 
 
 def dialled(address):

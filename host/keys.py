@@ -5,6 +5,8 @@ import os
 import secrets
 from pathlib import Path
 
+from host.state import written
+
 P = 2**255 - 19
 ORDER = 2**252 + 27742317777372353535851937790883648493
 D = -121665 * pow(121666, -1, P) % P
@@ -111,10 +113,13 @@ def pem(label, data):
     return f"-----BEGIN {label}-----\n{cut}\n-----END {label}-----\n"
 
 
-def make(folder, name):
+def make(folder: str | Path, name: str) -> tuple[Path, Path]:
     """Writes NAME.key and NAME.crt into a folder that is there; neither of them may be. Raises OSError."""
-    folder = Path(folder)
-    key, crt = folder / f"{name}.key", folder / f"{name}.crt"
+    return written_as(Path(folder), name, name)
+
+
+def written_as(folder: Path, file_name: str, name: str) -> tuple[Path, Path]:
+    key, crt = folder / f"{file_name}.key", folder / f"{file_name}.crt"
     if crt.exists():
         raise FileExistsError(17, "File exists", str(crt))
     secret = secrets.token_bytes(32)
@@ -123,3 +128,26 @@ def make(folder, name):
     serial = b"\x40" + secrets.token_bytes(15)
     crt.write_text(pem("CERTIFICATE", certificate(secret, name, serial)))
     return key, crt
+
+
+# The renewal of a pair's keys while a link is up: the other host takes the old certificate and the new one, until the new key is used.
+
+def renew(folder: str | Path, name: str) -> Path:
+    """Makes the next key beside the one that is used, which goes on. NAME.crt then has both certificates, the one that is used first. Raises
+    OSError."""
+    folder = Path(folder)
+    used, (_, new) = (folder / f"{name}.crt").read_bytes(), written_as(folder, f"{name}.next", name)
+    written(folder / f"{name}.crt", used + new.read_bytes())
+    return folder / f"{name}.crt"
+
+
+def switch(folder: str | Path, name: str) -> Path:
+    """Puts the next key and its certificate into the places of those that are used. One that was broken off is finished by the next. Raises
+    OSError."""
+    folder = Path(folder)
+    crt, key = folder / f"{name}.next.crt", folder / f"{name}.next.key"
+    written(folder / f"{name}.crt", crt.read_bytes())
+    if key.exists():
+        os.replace(key, folder / f"{name}.key")
+    crt.unlink()
+    return folder / f"{name}.crt"

@@ -6,7 +6,8 @@ import socket
 import time
 
 from host import messages
-from host.connection import Closed, Connection, contexts, dialled, listening
+from host.certificates import Certificates
+from host.connection import Closed, Connection, dialled, listening
 
 MOST_STRANGERS = 128  # connections that haven't shown who they are, of the peer's address and of all others; the oldest makes room
 MOST_CALLERS = 4  # connections of the peer that aren't attached: it has one, and each other one is of before
@@ -23,7 +24,7 @@ class Link:
 
     def __init__(self, settings, log, counts):
         self.settings, self.log, self.counts = settings, log, counts
-        self.server_context, self.client_context, self.pinned = contexts(settings)
+        self.certificates = Certificates(settings, log)
         self.listener = listening(settings.listen) if settings.listen else None
         self.strangers, self.callers, self.call, self.tcp, self.tcp_begun = [], [], None, None, 0.0
         self.connection, self.session = None, None  # the attached connection, and its session's name
@@ -142,7 +143,7 @@ class Link:
             except OSError:
                 return
             tcp.setsockopt(socket.IPPROTO_TCP, socket.TCP_NODELAY, 1)
-            connection = self.connection_of(tcp, address, self.server_context, now, is_server=True)
+            connection = self.connection_of(tcp, address, now, is_server=True)
             if connection is not None:
                 self.make_room([one for one in self.strangers if self.is_near(one) == self.is_near(connection)], MOST_STRANGERS)
                 self.strangers.append(connection)
@@ -156,10 +157,11 @@ class Link:
         if len(connections) >= most:
             self.drop(min(connections, key=lambda one: one.begun), "it makes room for another one")
 
-    def connection_of(self, tcp, address, context, now, is_server):
+    def connection_of(self, tcp, address, now, is_server):
         """None where the socket is of no use any more."""
+        to_listen, to_dial, pinned = self.certificates.current()
         try:
-            connection = Connection(tcp, context, self.pinned, now, is_server)
+            connection = Connection(tcp, to_listen if is_server else to_dial, pinned, now, is_server)
         except (OSError, ValueError):
             tcp.close()
             return None
@@ -183,7 +185,7 @@ class Link:
             tcp.close()
             self.dial_at = now + AGAIN
             return
-        self.call = self.connection_of(tcp, self.settings.peer, self.client_context, now, is_server=False)
+        self.call = self.connection_of(tcp, self.settings.peer, now, is_server=False)
         if self.call is None:
             self.dial_at = now + AGAIN
         else:

@@ -14,7 +14,7 @@ TEXT = """The daemon of one host of a pair.
 
     remus-host run --config FILE       runs the daemon
     remus-host check --config FILE     checks a configuration, and does no more
-    remus-host keys FOLDER NAME        makes NAME.key and NAME.crt for the link
+    remus-host keys FOLDER NAME        makes NAME.key and NAME.crt for the link; with --renew and --switch renews them
     remus-host log list|check          shows or checks a standby's log
     remus-host ctl VERB                asks a daemon that runs: status, promote, alone, drain, demote, save, metrics
 
@@ -31,7 +31,11 @@ def reader():
         one.add_argument("--config", metavar="FILE", help="the configuration")
         for key, (_, meaning) in settings.KEYS.items():
             one.add_argument("--" + key.replace("_", "-"), dest=key, default=argparse.SUPPRESS, metavar="VALUE", help=meaning)
-    one = kinds.add_parser("keys", help="makes a key and its certificate")
+    one = kinds.add_parser("keys", help="makes a key and its certificate, or renews them while a link is up")
+    how = one.add_mutually_exclusive_group()
+    how.add_argument("--renew", dest="how", action="store_const", const="renew", help="makes the next key, beside the one that is used")
+    how.add_argument("--switch", dest="how", action="store_const", const="switch", help="uses the next key, once the other host takes it")
+    one.set_defaults(how="make")
     one.add_argument("folder")
     one.add_argument("name")
     log_command.add(kinds)
@@ -39,16 +43,34 @@ def reader():
     return commands
 
 
-def make_keys(plan):
+def make_keys(plan: argparse.Namespace) -> int:
     try:
         if not plan.name.isprintable() or "/" in plan.name or not 0 < len(plan.name.encode()) <= 64:
             sys.exit(f"remus-host: {plan.name} can't be a name: at most 64 bytes that can be printed, without /")
-        key, certificate = keys.make(plan.folder, plan.name)
+        print(KEYS[plan.how](plan.folder, plan.name))
     except OSError as error:
         print(f"remus-host: {error.filename}: {error.strerror}", file=sys.stderr)
         return 1
-    print(f"{key} is secret, and stays on this host; {certificate} goes to the other one, as its peer_certificate")
     return 0
+
+
+def made(folder: str, name: str) -> str:
+    key, certificate = keys.make(folder, name)
+    return f"{key} is secret, and stays on this host; {certificate} goes to the other one, as its peer_certificate"
+
+
+def renewed(folder: str, name: str) -> str:
+    certificate = keys.renew(folder, name)
+    return (f"{certificate} has the certificate that is used and the new one: copy it to the other host, which takes either then; "
+            "after that 'keys --switch' uses the new key")
+
+
+def switched(folder: str, name: str) -> str:
+    certificate = keys.switch(folder, name)
+    return f"the new key is used from the next link on; {certificate} has its certificate alone: copy it to the other host"
+
+
+KEYS = {"make": made, "renew": renewed, "switch": switched}
 
 
 def configured(plan):
