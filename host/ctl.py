@@ -18,6 +18,7 @@ VERBS = {
 }
 
 
+PARTS = {"peer", "log"}  # of a status: what has parts, each of which is a line
 PATIENCE = {"drain": 60.0, "demote": 60.0, "save": 600.0}  # seconds, where it isn't 10
 
 
@@ -39,6 +40,8 @@ def add(kinds):
     readers["promote"].add_argument("--new", action="store_true", help="even where a guest was booted before")
     readers["promote"].add_argument("--from", dest="source", metavar="FILE", help="takes the guest of a snapshot")
     readers["promote"].add_argument("--disk", metavar="FILE", help="with --boot: boots over the disk of a snapshot")
+    readers["promote"].add_argument("--without-peer", action="store_true",
+                                    help="a standby from its log goes live though the peer wasn't heard: it is lost for good")
     readers["alone"].add_argument("--standby", metavar="INSTANCE", help="only if this is the standby")
     readers["drain"].add_argument("--promote", action="store_true", help="tells the standby to go live then")
     readers["drain"].add_argument("--within", type=float, metavar="MS", help="the longest that it may take")
@@ -48,7 +51,7 @@ def add(kinds):
 def request_of(plan):
     request = {"do": plan.verb}
     if plan.verb == "promote":
-        request |= {name: True for name in ("boot", "new") if getattr(plan, name)}
+        request |= {name: True for name in ("boot", "new", "without_peer") if getattr(plan, name)}
         request |= {name: os.path.abspath(path) for name, path in (("from", plan.source), ("disk", plan.disk)) if path}
     elif plan.verb == "alone" and plan.standby:
         request["standby"] = plan.standby
@@ -114,9 +117,9 @@ def said(plan, answer):
         print(answer["text"], end="")
     elif plan.verb == "status":
         for name, value in answer.items():
-            if name == "peer":
-                for part, of_peer in value.items():
-                    print(f"peer {part}: {shown(of_peer)}")
+            if name in PARTS and value is not None:
+                for part, of_it in value.items():
+                    print(f"{name} {part}: {shown(of_it)}")
             elif name not in ("ok", "did"):
                 print(f"{name}: {shown(value)}")
     else:

@@ -7,6 +7,8 @@ from host import messages, network
 from host.control import Control, Scrapes
 from host.link import Link
 from host.live import Live
+from host.log.disk import Disk
+from host.log.kept import Kept
 from host.meeting import Meeting
 from host.metrics import Counts
 from host.node import Node
@@ -43,7 +45,19 @@ class Daemon:
         self.node = Node(settings.node)
         self.live = self.standby = self.peer = self.life = self.shape = None
         self.instance = secrets.token_hex(8)
+        self.kept = Kept(self, Disk())
+        self.recover()
         self.signals = Signals(self)
+
+    def recover(self) -> None:
+        """A host whose folder has a log is its standby, and stands where that ends: for its live host one that was slow."""
+        if (recovered := self.kept.recover()) is None:
+            return
+        self.node.close()
+        self.node, found = recovered
+        head = found.head
+        self.life, self.shape, self.instance = head.life, (head.pages, head.sectors), head.instance
+        self.standby = Standby(self, bytes.fromhex(head.session), self.life, found.generation, self.shape, self.kept.resumed(found))
 
     # What the host is.
 
@@ -77,6 +91,8 @@ class Daemon:
         """What is here is given up. The guest, where it was here, makes no step any more: its node is told nothing, and killed."""
         self.link.close()
         self.node.kill()
+        if self.standby is not None:
+            self.kept.over()
         self.live = self.standby = self.life = self.shape = None
         self.instance = secrets.token_hex(8)
 
@@ -89,11 +105,13 @@ class Daemon:
 
     def stand_by(self, session, offer):
         """An empty host becomes the standby of a live one. That is on the disk before the live host hears of it. Raises Refused, and
-        OSError where it can't be written."""
+        OSError or Unprepared where it, or the log, can't be written."""
         self.state.keep(offer["life"], offer["generation"], "held")
         self.node.ask(f"standby {offer['pages']} {offer['sectors']} {offer['generation']}")
-        self.shape, self.life = (offer["pages"], offer["sectors"]), offer["life"]
-        self.standby = Standby(self, session, self.life, offer["generation"], self.shape)
+        shape, life, generation = (offer["pages"], offer["sectors"]), offer["life"], offer["generation"]
+        logged = self.kept.prepared(session, generation, life, shape)
+        self.shape, self.life = shape, life
+        self.standby = Standby(self, session, self.life, generation, self.shape, logged)
         self.counts.attachments += 1
         self.log.info(f"this host is ready as a standby of {offer['name']}, for generation {offer['generation']}")
 
@@ -119,6 +137,7 @@ class Daemon:
 
     def start(self, live):
         """The guest runs from now on, and bridges learn where it is."""
+        self.kept.goes_live()
         self.live = live
         self.network.up()
         self.network.put(network.announcement(self.settings.guest_address))
@@ -136,6 +155,16 @@ class Daemon:
         self.network.up()
         self.network.put(network.announcement(self.settings.guest_address))
         self.log.info("live again")
+
+    # What the log tells.
+
+    def log_told(self, now: float) -> None:
+        """Something more of the log is on the disk; or it failed, and this host is no standby any more, which acknowledges nothing."""
+        self.kept.keeper.heard()
+        if self.kept.keeper.failed is not None:
+            self.kept.has_failed(now)
+        elif self.standby is not None and self.standby.logged is not None:
+            self.standby.synced(now)
 
     # What the link tells.
 
@@ -193,6 +222,8 @@ class Daemon:
         frames = self.network.watched()
         reading, writing = [self.signals.came, *frames], []
         self.link.watched(reading, writing, is_patient)
+        if self.live is None:
+            reading.append(self.kept.keeper)
         for one in self.served:
             one.watched(reading, writing)
         readable, writable, _ = select.select(reading, writing, [], self.wait(time.monotonic()))
@@ -201,6 +232,8 @@ class Daemon:
         now = time.monotonic()
         if self.signals.came in readable:
             self.signals.hear(now)
+        if self.live is None and self.kept.keeper in readable:
+            self.log_told(now)
         if is_patient and self.link.is_up:
             readable.append(self.link.connection)
         self.link.turn(readable, writable, now, self.dials)
@@ -275,6 +308,7 @@ class Daemon:
             self.network.put(network.announcement(self.settings.guest_address))
 
     def close(self):
+        self.kept.close()
         for one in (self.control, self.scrapes, self.network, self.node):
             one.close()
         self.link.end()

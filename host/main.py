@@ -94,7 +94,7 @@ def open_ends() -> None:
 def run(plan: argparse.Namespace) -> int:
     found = configured(plan)
     open_ends()
-    log = Log(found.log, found.log_level, found.name)
+    log = Log(found.log_format, found.log_level, found.name)
     log.write_by_thread(2)
     try:
         return run_daemon(found, log)
@@ -111,7 +111,7 @@ def run_daemon(found: settings.Settings, log: Log) -> int:
     except OSError as error:
         log.error(f"{error.filename}: {error.strerror}" if error.filename else error.strerror or str(error))
         return 1
-    log.info(f"this host is empty; process {os.getpid()}, node {daemon.node.pid}, control socket {found.control}")
+    log.info(f"this host is {daemon.role}; process {os.getpid()}, node {daemon.node.pid}, control socket {found.control}")
     try:
         daemon.run()
     except NodeEnded as error:

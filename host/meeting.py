@@ -6,6 +6,7 @@ from host import messages
 from host.backoff import Backoff
 from host.connection import Closed
 from host.live import ALONE, FILLING
+from host.log.kept import Unprepared
 from host.messages import GO_LIVE, HELLO, NO, NO_SESSION, OFFER, OVER, READY, RESUME, Malformed, fields
 from host.node import Refused
 
@@ -63,6 +64,7 @@ class Meeting:
         if live:
             live.heard_of(hello["name"], hello["instance"])
         if host.role != "live":
+            host.kept.heard(hello)
             return self.refuse(connection, f"this host is {host.role}", "debug")
         session = hello["session"]
         if session is not None and live.session is not None and session == live.session.hex():
@@ -144,10 +146,18 @@ class Meeting:
         live = self.host.live
         if (hello["instance"], hello["generation"]) != (live.standby[1], live.generation):
             raise Malformed("another standby under this session's name")
+        if live.acked is not None and (hello["committed"] is None or hello["committed"] < live.acked):
+            return self.behind(connection, hello)
         connection.send(messages.told(RESUME, live.session, name=self.host.settings.name, instance=self.host.instance))
         self.link.attach(connection, live.session, now)
         self.log.info(f"the link to {hello['name']} is back")
         live.resume(hello["committed"], now)
+
+    def behind(self, connection, hello):
+        """This host's standby has less than it acknowledged: frames went out by what it has lost."""
+        why = f"LogBehind: it ends at checkpoint {hello['committed']}, and had acknowledged {self.host.live.acked}"
+        self.log.error(f"the log of {hello['name']} isn't resumed, {why}; its disk doesn't keep what it says is synced")
+        self.link.refuse(connection, messages.told(OVER, NO_SESSION, why=why, name=self.host.settings.name), why)
 
     def ready(self, connection, now):
         """The standby waits for the full checkpoint."""
@@ -215,6 +225,9 @@ class Meeting:
             return self.decline(connection, session, f"the node refuses a guest of {offer['pages']} pages: {refused}", now)
         except OSError as error:
             return self.decline(connection, session, f"the state folder {host.settings.state} can't be written: {error.strerror}", now)
+        except Unprepared as unprepared:
+            host.become_empty()  # its node waits for that guest
+            return self.decline(connection, session, str(unprepared), now)
         self.standing_by.worked()
         self.met(connection, session, offer, now)
         self.link.send(messages.message(READY, session), now)
@@ -232,6 +245,7 @@ class Meeting:
 
     def resumed(self, connection, told, now):
         self.host.standby.restart()
+        self.host.kept.attached()
         self.met(connection, self.host.session, told, now)
         self.log.info(f"the link to {told['name']} is back")
 

@@ -46,7 +46,8 @@ class Settings:
     frames: str | None = None
     guest_address: str | None = None
     metrics: tuple[str, int] | None = None
-    log: str = field(default_factory=lambda: "journal" if "JOURNAL_STREAM" in os.environ else "text")
+    log: str = "none"
+    log_format: str = field(default_factory=lambda: "journal" if "JOURNAL_STREAM" in os.environ else "text")
     log_level: str = "info"
 
 
@@ -140,6 +141,14 @@ def one_of(*names):
     return read
 
 
+def log(value: object) -> str:
+    if value == "both":
+        raise Mistake("can't be both: a live host keeps no log of its own; standby has its standby keep one")
+    if value in ("text", "json", "journal"):
+        raise Mistake(f"must be standby or none; how the daemon spells its lines is log_format = {value}")
+    return one_of("standby", "none")(value)
+
+
 def ipv4(value):
     try:
         return str(ipaddress.IPv4Address(text(value)))
@@ -170,7 +179,8 @@ KEYS = {
     "frames": (socket_path, "for socket: its path"),
     "guest_address": (ipv4, "the guest's IPv4 address"),
     "metrics": (loopback_endpoint, "ADDRESS:PORT of the loopback for Prometheus"),
-    "log": (one_of("text", "json", "journal"), "text, json or journal"),
+    "log": (log, "standby, where a standby keeps a log of the guest in the state folder, or none"),
+    "log_format": (one_of("text", "json", "journal"), "of what the daemon says: text, json or journal"),
     "log_level": (one_of("debug", "info", "warning", "error"), "debug, info, warning or error"),
 }
 

@@ -8,12 +8,14 @@ class Broken(Exception):
 
 
 class Standby:
-    """`generation` is the one whose checkpoints it takes."""
+    """`generation` is the one whose checkpoints it takes. Where it has a log, `committed` is what of it is on the disk, and the node may be
+    ahead of that."""
 
-    def __init__(self, host, session, life, generation, shape):
+    def __init__(self, host, session, life, generation, shape, logged=None):
         self.node, self.link, self.counts, self.log = host.node, host.link, host.counts, host.log
         self.session, self.life, self.generation, self.shape = session, life, generation, shape
-        self.committed = None
+        self.logged = logged
+        self.committed = None if logged is None else logged.reached
         self.number, self.taken = None, 0  # the text that is coming, and how many of its bytes are taken
 
     @property
@@ -36,6 +38,8 @@ class Standby:
             raise Broken(f"checkpoint {number} goes on at {begin}, and {self.taken} bytes of {self.number} are here")
         self.number, self.taken = number, begin + len(data)
         is_whole = self.taken == total
+        if self.logged is not None:
+            self.logged.came(number, begin, data)
         answers = self.node.tell(piece(data), b"commit") if is_whole else self.node.tell(piece(data))
         if is_whole:
             self.number, self.taken = None, 0
@@ -48,10 +52,25 @@ class Standby:
             self.has_committed(answers[1], total, now)
 
     def has_committed(self, answer, total, now):
-        is_first = not self.is_full
-        self.committed = answer.number(2)
         self.counts.commits += 1
         self.counts.checkpoint_bytes += total
+        number = answer.number(2)
+        if self.logged is None:
+            self.acknowledge(number, now)
+            return
+        self.logged.committed(number)
+        if number == self.committed:
+            self.acknowledge(number, now)  # its acknowledgement was lost
+
+    def synced(self, now):
+        """More of the log is on the disk."""
+        reached = self.logged.reached
+        if reached is not None and reached != self.committed:
+            self.acknowledge(reached, now)
+
+    def acknowledge(self, number, now):
+        is_first = not self.is_full
+        self.committed = number
         self.link.send(messages.acknowledgement(self.session, self.generation, self.committed), now)
         if is_first:
             self.log.info(f"the full checkpoint of generation {self.generation} is committed: this host can be promoted")

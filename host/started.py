@@ -57,6 +57,7 @@ class Host:
 
     def __init__(self, folder, name, namespace=None, **settings):
         self.folder, self.name, self.namespace = Path(folder), name, namespace
+        self.program = ROOT / "remus-host"
         self.control, self.process = str(self.folder / f"{name}.control"), None
         self.errors = None  # a descriptor that its log is written to, in place of a file
         self.settings = {"name": name, "state": str(self.folder / f"state_{name}"), "control": self.control} | settings
@@ -67,7 +68,7 @@ class Host:
             self.settings[name] = value
         config = self.folder / f"{self.name}.toml"
         config.write_text("".join(f"{name} = {spelled(value)}\n" for name, value in self.settings.items()))
-        command = [ROOT / "remus-host", "run", "--config", config]
+        command = [self.program, "run", "--config", config]
         if self.namespace:
             command = ["ip", "netns", "exec", self.namespace, *command]
         with open(self.folder / f"{self.name}.log", "ab") as log:

@@ -13,7 +13,7 @@ BOOL, TEXT, NUMBER = (bool,), (str,), (int, float)
 # By verb: the fields that a request may have beside `do`, and their types.
 REQUESTS = {
     "status": {},
-    "promote": {"boot": BOOL, "new": BOOL, "from": TEXT, "disk": TEXT},
+    "promote": {"boot": BOOL, "new": BOOL, "from": TEXT, "disk": TEXT, "without_peer": BOOL},
     "alone": {"standby": TEXT},
     "drain": {"promote": BOOL, "within_ms": NUMBER},
     "demote": {},
@@ -69,7 +69,7 @@ class Verbs:
     def metrics(self, answer):
         return {"ok": True, "text": metrics.text(self.host)}
 
-    def promote(self, answer, boot=False, new=False, source=None, disk=None):
+    def promote(self, answer, boot=False, new=False, source=None, disk=None, without_peer=False):
         host, now = self.host, time.monotonic()
         if source is not None and boot or not boot and (new or disk is not None):
             return refusal("Malformed", "promote takes boot, with new and disk or without them, or from, or nothing")
@@ -80,7 +80,10 @@ class Verbs:
         if host.role == "frozen":
             host.thaw(now)
         elif not host.full:
-            return refusal("NoCheckpoint", "no full checkpoint of the guest is here")
+            refused = f": the log is refused, {host.kept.refused}" if host.kept.refused else ""
+            return refusal("NoCheckpoint", f"no full checkpoint of the guest is here{refused}")
+        elif why := host.kept.refuses(without_peer):
+            return refusal(*why)
         else:
             host.go_live(now)
         return self.lives("this host is live")
@@ -196,6 +199,6 @@ def status(host):
                  "successor": live.successor if live else None},
         "steps": live.steps if live else standby.steps() if standby else 0,
         "late_ms": round(live.late * 1000) if live else 0, "held": live.held if live else 0,
-        "dead": live.watch.found if live else None, "network_error": host.network.wrong, "name": host.settings.name,
-        "uptime_ms": since(host.begun), "version": host.version,
+        "log": host.kept.status(), "dead": live.watch.found if live else None, "network_error": host.network.wrong,
+        "name": host.settings.name, "uptime_ms": since(host.begun), "version": host.version,
     }

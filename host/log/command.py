@@ -1,5 +1,4 @@
 """`remus-host log`: what the log of a state folder holds, from its files, whether a daemon runs or not."""
-import datetime
 import sys
 import time
 from pathlib import Path
@@ -7,6 +6,7 @@ from pathlib import Path
 from host import settings
 from host.log.disk import Disk
 from host.log.format import LogBehind, Rotten, generation_of
+from host.log.kept import at
 from host.log.reading import Found, check_all, is_log, judged_log, newest
 
 WHOLE, DAMAGED, BAD = range(3)
@@ -67,8 +67,3 @@ def described(found: Found, counts: bool) -> str:
     how = "over" if found.is_over else "the one that counts" if counts else "an earlier one"
     return (f"generation {found.generation}, checkpoints 0 to {found.number}, {at(found.begun)} to {at(found.ended)}, "
             f"life {found.head.life}: {how}")
-
-
-def at(when: int) -> str:
-    """Milliseconds of the wall clock, as UTC."""
-    return datetime.datetime.fromtimestamp(when / 1000, datetime.timezone.utc).isoformat(timespec="milliseconds").replace("+00:00", "Z")

@@ -53,9 +53,13 @@ class Keeper:
         """Goes on with a log that was judged, behind its end."""
         self.give(self.continue_log, found)
 
-    def piece(self, generation: int, data: bytes, is_first: bool) -> None:
-        """The next bytes of a generation's full checkpoint."""
-        self.give(self.write_base, generation, data, is_first)
+    def prepare(self, generation: int, most: int) -> None:
+        """A generation's full checkpoint is to come, which has so many bytes at most. What is here is over."""
+        self.give(self.begin_base, generation, most)
+
+    def piece(self, data: bytes, is_first: bool) -> None:
+        """The next bytes of the full checkpoint."""
+        self.give(self.write_base, data, is_first)
 
     def begin(self, generation: int, head: Head) -> None:
         """The full checkpoint is whole: its log begins, and what was here before goes. The head's sum is filled in."""
@@ -65,8 +69,13 @@ class Keeper:
         self.give(self.append, number, data)
 
     def over(self) -> None:
-        """What is here is never loaded again."""
-        self.give(self.end_log)
+        """The log that is written is never loaded again."""
+        if self.thread is not None:
+            self.give(self.end_log)
+
+    def end_all(self) -> None:
+        """No log that is in the folder is ever loaded again."""
+        self.give(self.end_what_is_here)
 
     def give(self, *job) -> None:
         if self.thread is None:
@@ -82,12 +91,16 @@ class Keeper:
         self.give(self.settle, done)
         return done.wait(seconds) and self.failed is None
 
+    def leave(self) -> None:
+        """The thread ends once what was given is done, and nobody waits for it."""
+        with self.more:
+            self.is_ending = True
+            self.more.notify()
+
     def close(self, seconds: float = 5.0) -> None:
-        """What was given is done, and the thread ends."""
+        """The same, but it is waited for, so long at most."""
+        self.leave()
         if self.thread is not None:
-            with self.more:
-                self.is_ending = True
-                self.more.notify()
             self.thread.join(seconds)
 
     # The thread's side.
@@ -112,7 +125,10 @@ class Keeper:
     def work(self, jobs: deque[Job]) -> None:
         """Does all of these, and then syncs once."""
         for method, *words in jobs:
-            self.tried(method, *words)
+            if method == self.settle:
+                method(*words)
+            else:
+                self.tried(method, *words)
         self.tried(self.sync)
 
     def tried(self, method: Callable[..., None], *words) -> None:
@@ -129,13 +145,17 @@ class Keeper:
         self.mark = Mark(self.disk, self.folder, found.generation)
         self.reached = (found.head.session, found.number)
 
-    def write_base(self, generation: int, data: bytes, is_first: bool) -> None:
+    def begin_base(self, generation: int, most: int) -> None:
+        self.disk.make_folder(self.folder)
+        self.end_what_is_here()
+        if self.base is not None:
+            self.base.discard()
+        self.base = BaseFile(self.disk, self.folder, generation, most)
+        self.disk.sync(self.base.file)  # so that a disk that fails is found before anybody waits for it
+
+    def write_base(self, data: bytes, is_first: bool) -> None:
         if is_first:
-            self.disk.make_folder(self.folder)
-            self.end_what_is_here()
-            if self.base is not None:
-                self.base.discard()
-            self.base = BaseFile(self.disk, self.folder, generation)
+            self.base.begin()
         self.base.write(data)
 
     def end_what_is_here(self) -> None:
@@ -185,7 +205,8 @@ class Keeper:
             self.reached, self.synced_at = (log.session, log.number), time.time()
 
     def settle(self, done: threading.Event) -> None:
-        self.sync()
+        """Somebody waits for what was given before, whether it failed or not."""
+        self.tried(self.sync)
         done.set()
 
     def put_mark(self) -> None:

@@ -76,12 +76,19 @@ def continued(disk: Disk, folder: Path, found: Found) -> LogFile:
 
 
 class BaseFile:
-    """The text of a generation's full checkpoint, piece by piece. It has its name once all of it is on the disk."""
+    """The text of a generation's full checkpoint, piece by piece, with room for so many bytes as it may have at the most. It has its name
+    once all of it is on the disk."""
 
-    def __init__(self, disk: Disk, folder: Path, generation: int) -> None:
+    def __init__(self, disk: Disk, folder: Path, generation: int, most: int) -> None:
         self.disk, self.folder, self.generation = disk, folder, generation
         self.path, self.beside = folder / f"{generation}.base", folder / f"{generation}.base.new"
-        self.file, self.sum, self.length = disk.create(self.beside), blake2b(digest_size=32), 0
+        self.file = disk.create(self.beside)
+        disk.allocate(self.file, 0, BLOCK + most)
+        self.begin()
+
+    def begin(self) -> None:
+        """From its first byte on."""
+        self.sum, self.length = blake2b(digest_size=32), 0
 
     def write(self, data: bytes) -> None:
         self.disk.write(self.file, data, BLOCK + self.length)
@@ -92,6 +99,7 @@ class BaseFile:
         """Puts it in place, and answers its sum."""
         head = BASE_HEAD.pack(BASE_MAGIC, 0, self.generation, self.length, self.sum.digest())
         self.disk.write(self.file, head + bytes(BLOCK - len(head)), 0)
+        self.disk.cut(self.file, BLOCK + self.length)
         self.disk.sync(self.file)
         self.disk.close(self.file)
         self.disk.rename(self.beside, self.path)

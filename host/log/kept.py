@@ -1,0 +1,208 @@
+"""What a daemon has of its log: the standby that it is from its start on; what its standby has committed, and what of that is on the disk;
+and whether what a log holds may be promoted."""
+import datetime
+
+from host.backoff import Backoff
+from host.log.disk import Disk
+from host.log.format import Head, LogBehind, Rotten
+from host.log.keeper import Keeper
+from host.log.reading import Found, newest
+from host.log.recovery import fill
+from host.node import Node, NodeEnded
+from host.text import COUNT, MOST_PAGE, RECORDS_AT, SECTOR
+
+WAIT = 5.0  # seconds, for what must be on the disk before anything else is done
+WORKED = 600.0  # seconds, after which a log that fails isn't taken for one that fails again
+LOW = 64 << 20  # bytes of room on the disk, below which that is told
+LOOK_EVERY = 10.0  # seconds
+MORE = 1 << 62  # than any number of a checkpoint: what a frozen host holds is of its guest as it stopped
+
+
+class StandbyLog:
+    """The log of one attachment: `given` is the last number that the keeper has, and `reached` the last one that is on the disk."""
+
+    def __init__(self, keeper: Keeper, head: Head, generation: int, number: int | None = None) -> None:
+        self.keeper, self.head, self.generation = keeper, head, generation
+        self.given = self.begun_at = number
+        self.parts = []  # of the text that is coming
+
+    def came(self, number: int, begin: int, data: bytes) -> None:
+        """The next bytes of a text."""
+        if number == 0 and self.given is None:
+            self.keeper.piece(data, begin == 0)
+        elif begin == 0:
+            self.parts = [data]
+        else:
+            self.parts.append(data)
+
+    def committed(self, number: int) -> None:
+        """The node has committed the text that came; one that it had before is in the log already."""
+        if number == 0 and self.given is None:
+            self.keeper.begin(self.generation, self.head)
+            self.given = 0
+        elif self.given is not None and number == self.given + 1:
+            self.keeper.text(number, b"".join(self.parts))
+            self.given = number
+        self.parts = []
+
+    @property
+    def reached(self) -> int | None:
+        reached = self.keeper.reached
+        return reached[1] if reached is not None and reached[0] == self.head.session else self.begun_at
+
+
+class Unprepared(Exception):
+    """The log of a new attachment can't be begun."""
+
+
+class Kept:
+    """`host` is the daemon. Where `log` is none nothing is written, but that a log which was here is over."""
+
+    def __init__(self, host: "Daemon", disk: Disk) -> None:
+        self.host, self.disk, self.folder = host, disk, host.state.folder / "log"
+        self.keeps, self.keeper = host.settings.log != "none", Keeper(disk, self.folder)
+        self.found: Found | None = None  # the log that this host is a standby from, until its live host has it again
+        self.refused: str | None = None  # why the log that was here at the start isn't loaded
+        self.backoff, self.prepared_at = Backoff(), 0.0
+        self.is_low, self.looked_at = False, 0.0
+        self.peer: dict | None = None  # what the peer said last of what it holds
+
+    # At the start.
+
+    def recover(self) -> tuple[Node, Found] | None:
+        """The log that counts, and a node that is a standby from it; None where there is none, or it is refused."""
+        log, node = self.host.log, None
+        try:
+            found = newest(self.disk, self.folder)
+            if found is None:
+                return None
+            if not self.keeps:
+                log.warning(f"log is none: the log in {self.folder}, of generation {found.generation} up to checkpoint {found.number}, isn't "
+                            "loaded")
+                return None
+            node = Node(self.host.settings.node)
+            fill(node, self.disk, self.folder, found)
+        except (Rotten, LogBehind, NodeEnded, OSError) as error:
+            if node is not None:
+                node.close()
+            self.refused = f"{type(error).__name__}: {error}"
+            log.error(f"the log in {self.folder} is refused, and this host is empty: {self.refused}")
+            return None
+        self.found = found
+        self.keeper.resume(found)
+        log.info(f"this host is a standby from its log: generation {found.generation}, checkpoint {found.number}, written {at(found.ended)}")
+        return node, found
+
+    # The standby's log.
+
+    def prepared(self, session: bytes, generation: int, life: str, shape: tuple[int, int]) -> StandbyLog | None:
+        """The log of a new attachment, for which there is room on the disk; None where none is kept. What was here is over then, and on the
+        disk. Raises Unprepared."""
+        self.found = self.peer = None
+        self.prepared_at = self.host.link.now()
+        pages, sectors = shape
+        if self.keeps:
+            self.keeper.prepare(generation, RECORDS_AT + pages * MOST_PAGE + sectors * (COUNT.size + SECTOR) + 2 * COUNT.size)
+        elif self.disk.names(self.folder):
+            self.keeper.end_all()
+        else:
+            return None
+        if not self.keeper.finish(WAIT):
+            raise Unprepared(self.left())
+        head = Head(life, pages, sectors, session.hex(), self.host.instance, "")
+        return StandbyLog(self.keeper, head, generation) if self.keeps else None
+
+    def resumed(self, found: Found) -> StandbyLog:
+        return StandbyLog(self.keeper, found.head, found.generation, found.number)
+
+    def left(self) -> str:
+        """Leaves a log that failed, and says why it did. It is never touched again by this keeper."""
+        why = self.keeper.failed or f"the disk took longer than {WAIT:.0f} s"
+        self.keeper.leave()
+        self.keeper = Keeper(self.disk, self.folder)
+        return f"the log in {self.folder} failed, {why}"
+
+    def has_failed(self, now: float) -> None:
+        """The log of this host's standby failed, which then is none any more. The peer isn't dialled for a while, so that a live host isn't
+        stopped by the same thing over and over."""
+        host, why = self.host, self.left()
+        if now - self.prepared_at > WORKED:
+            self.backoff.worked()
+        seconds = self.backoff.failed(now)
+        host.log.error(f"{why}: this host is no standby any more, and asks to be one again in {seconds:.0f} s")
+        if host.standby is not None:
+            host.become_empty()
+        host.link.dial_at = now + seconds
+
+    def over(self) -> None:
+        """The standby's log is stale, and is never loaded again."""
+        self.keeper.over()
+        self.found = None
+
+    def goes_live(self) -> None:
+        """The guest runs here from now on, of which no log is written: before anything of it is let out, what is here is over."""
+        self.found = None
+        if not self.disk.names(self.folder):
+            return
+        self.keeper.end_all()
+        if not self.keeper.finish(WAIT):
+            self.host.log.error(f"it can't be written into the log in {self.folder} that it is over: remove that folder before this daemon is "
+                                "started again, since what it holds is stale")
+
+    # Before a promotion.
+
+    def heard(self, hello: dict) -> None:
+        """What the peer says of what it holds."""
+        self.peer = hello
+
+    def attached(self) -> None:
+        """The live host has its standby again."""
+        self.found = None
+
+    def refuses(self, without_peer: bool) -> tuple[str, str] | None:
+        """Why a standby from a log may not go live, as a refusal's name and a sentence."""
+        if self.found is None:
+            return None
+        peer, mine = self.peer, (self.found.generation, self.host.standby.committed)
+        if peer is None:
+            return None if without_peer else ("PeerUnknown", "this host is a standby from its log, and the peer, which may have gone on, "
+                                              "wasn't heard since the daemon's start; where it is lost for good: --without-peer")
+        if peer["life"] == self.found.head.life and peer["full"]:
+            theirs = peer["generation"], MORE if peer["committed"] is None else peer["committed"]
+            if theirs > mine:
+                return "Stale", (f"{peer['name']} holds generation {theirs[0]} of this guest"
+                                 f"{'' if theirs[1] == MORE else f' up to checkpoint {theirs[1]}'}, and this host {mine[0]} up to {mine[1]}")
+        return None
+
+    # What is told.
+
+    def status(self) -> dict | None:
+        """None where no log is kept and none is refused."""
+        if not self.keeps and self.refused is None:
+            return None
+        log = self.keeper.log
+        return {"generation": log.generation if log else None, "number": log.number if log else None,
+                "synced": None if self.keeper.synced_at is None else at(round(self.keeper.synced_at * 1000)),
+                "over": log.is_over if log else None, "bytes": log.end if log else None, "recovered": self.found is not None,
+                "failed": self.keeper.failed, "refused": self.refused}
+
+    def look(self, now: float) -> None:
+        """Whether the disk is nearly full, now and then."""
+        if now - self.looked_at < LOOK_EVERY:
+            return
+        self.looked_at = now
+        try:
+            room = self.disk.room(self.folder)
+        except OSError:
+            return
+        if (is_low := room < LOW) and not self.is_low:
+            self.host.log.warning(f"the disk of {self.folder} has {room >> 20} MiB left: where it is full, this host is no standby any more")
+        self.is_low = is_low
+
+    def close(self) -> None:
+        self.keeper.close()
+
+
+def at(when: int) -> str:
+    """Milliseconds of the wall clock, as UTC."""
+    return datetime.datetime.fromtimestamp(when / 1000, datetime.timezone.utc).isoformat(timespec="milliseconds").replace("+00:00", "Z")
