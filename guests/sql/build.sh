@@ -10,6 +10,8 @@
 #
 #   PASSWORD        what clients must know, in ASCII; without it anyone who reaches the guest may read and write
 #   DATE            the day on which the guest begins, in UTC (2026-01-01): the machine knows how long it runs, not which day it is
+#   TIMEOUTS        what statement_timeout, lock_timeout and idle_in_transaction_session_timeout are where a client sets nothing, in
+#                   milliseconds (20000 10000 60000)
 #   CLIENTS         how many clients the boot line has (1)
 #   COUNTER         where it is 1, port 7 counts over UDP, for tests of what clients without a connection see
 #   SOURCES         a folder that has the source packages' files already
@@ -86,10 +88,12 @@ cp -r "$here" "$room/sql"
 cp -r "$here/../server" "$here/../lib" "$room"
 cd "$room"
 sources="secret.c server/server.c server/disk.c server/network.c server/reopen.c one/sqlite3.c"
-for name in guest log vfs locks text digest password scram statement session work query rows messages parameters trigger extended postgres \
-    request table page door http connections; do
+for name in guest log vfs locks text settings stacks turns patterns functions digest password scram statement session work query rows \
+    messages parameters trigger extended postgres request table page door http connections; do
     sources="$sources sql/$name.c"
 done
+read -r statement lock idle <<<"${TIMEOUTS:-20000 10000 60000}"
+options="$options -DMOST_STATEMENT=$statement -DMOST_LOCK=$lock -DMOST_IDLE=$idle"
 if [ "${COUNTER:-}" = 1 ]; then
     options="$options -DCOUNTER"
     lwip_core="$lwip_core core/udp"
@@ -102,9 +106,9 @@ done
 # shellcheck disable=SC2086
 riscv64-unknown-elf-gcc --specs=picolibc.specs -march=rv64im -misa-spec=2.2 -mabi=lp64 -mcmodel=medany -mno-relax -mstrict-align -O2 \
     -std=gnu11 -nostartfiles -static -fno-pic -fno-asynchronous-unwind-tables -ffunction-sections -fdata-sections -Wl,--gc-sections \
-    -Wl,--no-relax -Wl,--build-id=none -Wl,--no-warn-rwx-segments -Wl,--defsym=pages="$pages",--defsym=stack_bytes=2097152 \
+    -Wl,--no-relax -Wl,--build-id=none -Wl,--no-warn-rwx-segments -Wl,--defsym=pages="$pages",--defsym=stack_bytes=524288 \
     -T lib/guest.ld -DSTEPS_A_MILLISECOND="$steps" -DBEGAN="${began}LL" $options -Isql -Iserver -Ilwip/src/include -Ione \
-    -o sql.elf lib/start.s $sources
+    -o sql.elf lib/start.s sql/switch.s $sources
 riscv64-unknown-elf-objcopy -O binary -j .image sql.elf sql.bin
 [ -z "${ELF:-}" ] || cp sql.elf "$ELF"
 echo "boot $pages $sectors ${CLIENTS:-1} words $(od -An -v -tx4 -w4 --endian=little sql.bin | tr -d ' ' | paste -sd' ')"

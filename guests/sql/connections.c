@@ -18,21 +18,18 @@
 static void send(struct session *session) {
     struct tcp_pcb *connection = session->connection;
     struct text *out = &session->out;
-    while (session->sent < out->length) {
-        uint32_t count = LWIP_MIN(out->length - session->sent, LWIP_MIN(tcp_sndbuf(connection), MOST_AT_ONCE));
+    while (session->sent < session_sendable(session)) {
+        uint32_t count = LWIP_MIN(session_sendable(session) - session->sent, LWIP_MIN(tcp_sndbuf(connection), MOST_AT_ONCE));
         if (count == 0 || tcp_write(connection, out->bytes + session->sent, (u16_t)count, TCP_WRITE_FLAG_COPY) != ERR_OK)
             break;
         session->sent += count;
     }
-    if (session->sent == out->length)
-        session->sent = out->length = 0;
-    text_shrink(out);
     tcp_output(connection);
 }
 
-/* Lets the client send more, unless it is to wait. */
+/* Lets the client send more. */
 static void let_send(struct session *session) {
-    while (session->owed > 0 && !session->is_waiting && !session->is_held) {
+    while (session->owed > 0) {
         u16_t count = (u16_t)LWIP_MIN(session->owed, MOST_AT_ONCE);
         tcp_recved(session->connection, count);
         session->owed -= count;
@@ -47,7 +44,6 @@ static err_t end(struct session *session) {
     tcp_sent(connection, NULL);
     tcp_poll(connection, NULL, 0);
     tcp_err(connection, NULL);
-    session->is_waiting = session->is_held = 0;
     let_send(session);
     session_drop(session);
     if (tcp_close(connection) == ERR_OK)
@@ -58,12 +54,11 @@ static err_t end(struct session *session) {
 
 /* Sends what there is to say, and ends the session where it is to end. */
 static err_t go_on(struct session *session) {
-    do
-        send(session);
-    while (session_resume(session));
-    if (session->is_ending && session->out.length == 0)
+    send(session);
+    if (session_is_sent(session))
         return end(session);
-    let_send(session);
+    if (!session_is_busy(session) && !session->is_held)
+        let_send(session);
     return ERR_OK;
 }
 

@@ -93,9 +93,7 @@ static void find_out(struct visitor *visitor) {
         is_right_known = 1;
     }
     door_leave(visitor);
-    session->is_waiting = 0;
-    session->service->go_on(session);
-    carry(session);
+    session_wake(session);
 }
 
 void door_poll(void) {

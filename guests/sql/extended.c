@@ -340,6 +340,8 @@ static enum outcome run_portal(struct session *session, struct extended *extende
     portal->is_run = is_noted(session, statement, &warning);
     if (warning.code != NULL)
         say_warning(&session->out, warning.code, warning.why);
+    if (set_setting(session, statement, failure) != ENDED)
+        return FAILED;
     if (portal->is_run || portal->of->compiled == NULL) {
         portal->is_run = 1;
         return ENDED;

@@ -135,6 +135,7 @@ static void is_over(struct session *session) {
     if (is_open)
         sqlite3_exec(session->database, "ROLLBACK", NULL, NULL, NULL);
     session->is_failed = session->is_implicit = session->has_savepoint = 0;
+    settings_start(&session->settings);
     if (is_open && browser->status == 200) {
         browser->status = 400;
         set_failure(&browser->failure, "25000", "the transaction was open at the end, and is rolled back");
@@ -316,7 +317,13 @@ static void go_on(struct session *session) {
 /* What was asked whole is answered; a body that was cut short is left. */
 static void end_of_input(struct session *session) {
     of(session)->is_silent = 1;
-    session->is_ending |= !session->is_waiting && !session->is_held;
+    session->is_ending |= !session_is_busy(session) && !session->is_held;
+}
+
+static void give_up(struct session *session, const struct failure *failure, int was_waiting) {
+    (void)was_waiting;
+    session->was_block = is_in_block(session);
+    query_fail(session, &of(session)->query, failure);
 }
 
 static void drop(struct session *session) {
@@ -325,4 +332,4 @@ static void drop(struct session *session) {
     text_drop(&of(session)->body);
 }
 
-const struct service http = {80, sizeof(struct browser), MOST_QUIET, take, go_on, end_of_input, drop};
+const struct service http = {80, sizeof(struct browser), MOST_QUIET, go_on, end_of_input, give_up, drop};

@@ -68,3 +68,5 @@ void log_unlock(struct log_locks *locks, int first, int count) {
 }
 
 uint32_t lock_lowered(void) { return lowered; }
+
+void lock_forget_lowered(uint32_t count) { lowered = count; }

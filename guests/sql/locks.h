@@ -37,4 +37,7 @@ void log_unlock(struct log_locks *locks, int first, int count);
 /* How often a lock of either kind was given back: whoever waits for one tries again when this has changed. */
 uint32_t lock_lowered(void);
 
+/* What was given back since it was so often had been taken since too: nobody has waited for it. */
+void lock_forget_lowered(uint32_t count);
+
 #endif

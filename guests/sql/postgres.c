@@ -171,26 +171,26 @@ static void let_in(struct client *client) {
     say_ready(&client->session);
 }
 
-/* A client that waits for a lock waits no longer. Nobody is told whether there was one. */
+/* What a client has run, or waits for, is stopped. Nobody is told whether there was one. */
 static void cancel(uint32_t number, uint32_t key) {
     struct session *session = session_of(number);
-    struct failure failure;
-    if (session == NULL || session->service != &postgres || of(session)->key != key || !session->is_waiting)
-        return;
-    set_failure(&failure, "57014", "canceling statement due to user request");
-    session->is_waiting = 0;
-    session->ticket = 0;
-    if (of(session)->query.text != NULL) {
-        session->was_block = is_in_block(session);
-        query_fail(session, &of(session)->query, &failure);
-    } else {
-        session->was_block = is_in_block(session);
+    if (session != NULL && session->service == &postgres && of(session)->key == key)
+        session_stop(session, CANCELLED);
+}
+
+static void give_up(struct session *session, const struct failure *failure, int was_waiting) {
+    struct client *client = of(session);
+    session->was_block = is_in_block(session);
+    if (client->query.text != NULL) {
+        query_fail(session, &client->query, failure);
+    } else if (was_waiting) {
         has_failed(session, NOTHING);
-        say_error(&session->out, "ERROR", failure.code, failure.why);
-        of(session)->is_skipping = 1;
+        say_error(&session->out, "ERROR", failure->code, failure->why);
+        client->is_skipping = 1;
+    } else {
+        sqlite3_exec(session->database, "ROLLBACK", NULL, NULL, NULL);
+        end_with(session, failure->code, failure->why);
     }
-    session->service->take(session);
-    carry(session);
 }
 
 static uint32_t make_key(uint32_t number) {
@@ -300,6 +300,7 @@ static int take_message(struct client *client, const uint8_t *message, uint32_t 
     struct failure failure;
     enum outcome outcome = ENDED;
     session->was_block = is_in_block(session);
+    session_begin(session);
     if (client->stage == SAYS_WHO || client->stage == PROVES) {
         if (message[0] == 'p')
             take_proof(client, &reader);
@@ -322,6 +323,8 @@ static int take_message(struct client *client, const uint8_t *message, uint32_t 
         say_error(&session->out, "ERROR", failure.code, failure.why);
         client->is_skipping = 1;
     }
+    if (!session->is_waiting)
+        session_rest(session);
     return outcome == WAITS;
 }
 
@@ -371,6 +374,7 @@ static void take(struct session *session) {
             end_with(session, "08P01", "a message has more than 262144 bytes, or a length that the protocol doesn't have there");
         if (length == 0 || length == NO_LENGTH)
             break;
+        session_settle(session);
         if (client->stage == STARTS) {
             take_start(client, message, length);
         } else {
@@ -393,11 +397,7 @@ static void go_on(struct session *session) {
 }
 
 /* A client that ends without a word has vanished: what it left open is rolled back. */
-static void end_of_input(struct session *session) {
-    session->is_ending = 1;
-    session->is_waiting = 0;
-    session->out.length = session->sent;
-}
+static void end_of_input(struct session *session) { session_fall_silent(session); }
 
 static void drop(struct session *session) {
     struct client *client = of(session);
@@ -408,4 +408,4 @@ static void drop(struct session *session) {
     text_drop(&client->trigger);
 }
 
-const struct service postgres = {5432, sizeof(struct client), 0, take, go_on, end_of_input, drop};
+const struct service postgres = {5432, sizeof(struct client), 0, go_on, end_of_input, give_up, drop};

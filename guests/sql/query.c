@@ -18,6 +18,7 @@ void query_drop(struct query *query) {
 
 static int is_over(struct session *session, struct query *query) {
     query_drop(query);
+    session_rest(session);
     query->teller->over(session);
     return STOPS;
 }
@@ -70,6 +71,7 @@ static int goes_on(struct session *session, struct query *query, int64_t rows) {
         query->again = query->rest;
         query->again_answered = query->answer->length;
         query->again_ended = query->ended;
+        session_settle(session);
     }
     return GOES_ON;
 }
@@ -101,6 +103,8 @@ static int next_statement(struct session *session, struct query *query) {
         query->rest = from;
         return comes_to(session, query, outcome, &failure);
     }
+    if (set_setting(session, &query->statement, &failure) != ENDED)
+        return fails(session, query, &failure);
     if (query->prepared == NULL)
         return query->statement.kind <= PLAIN ? GOES_ON : goes_on(session, query, 0);
     if (query->only_reads && !(sqlite3_stmt_readonly(query->prepared) && query->statement.kind != BEGIN))
@@ -134,6 +138,7 @@ void query_go_on(struct session *session, struct query *query) {
 
 void query_start(struct session *session, struct query *query, const char *text, uint32_t length) {
     struct failure failure;
+    session_begin(session);
     query->text = sqlite3_malloc64((uint64_t)length + 1);
     query->prepared = NULL;
     query->ended = query->again_ended = 0;

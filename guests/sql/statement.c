@@ -149,15 +149,19 @@ static void set(struct statement *statement, enum kind kind, const char *sql, co
     strcpy(statement->tag, tag);
 }
 
-/* A name, with the quotes around it taken off, in small letters where it has none. */
-static void read_name(const char *at, char name[64]) {
+/* A name or a value, with the quotes around it taken off, in small letters where it has none. Answers what is after it. */
+static const char *read_until(const char *at, char *name, int room) {
     int length = 0;
     at = after_blanks(at);
     char quote = *at == '"' || *at == '\'' ? *at++ : '\0';
-    for (; *at != '\0' && length < 63 && (quote != '\0' ? *at != quote : is_letter(*at) || is_digit(*at) || *at == '.'); at++)
-        name[length++] = quote == '\0' && *at >= 'A' && *at <= 'Z' ? (char)(*at + 32) : *at;
+    for (; *at != '\0' && (quote != '\0' ? *at != quote : is_letter(*at) || is_digit(*at) || *at == '.' || *at == '-'); at++)
+        if (length < room - 1)
+            name[length++] = quote == '\0' && *at >= 'A' && *at <= 'Z' ? (char)(*at + 32) : *at;
     name[length] = '\0';
+    return quote != '\0' && *at == quote ? at + 1 : at;
 }
+
+static const char *read_name(const char *at, char name[64]) { return read_until(at, name, 64); }
 
 /* The words of transactions. Answers whether it is one of these. */
 static int read_transaction(struct statement *statement, const char *word, const char *after) {
@@ -184,12 +188,34 @@ static int read_transaction(struct statement *statement, const char *word, const
     return 1;
 }
 
+/* What is to be set: [SESSION | LOCAL] NAME {= | TO} VALUE, after SET. */
+static void read_set(struct statement *statement, const char *after) {
+    char next[MOST_WORD];
+    const char *behind = next_word(after, next);
+    statement->is_local = strcmp(next, "LOCAL") == 0;
+    if (statement->is_local || strcmp(next, "SESSION") == 0)
+        after = behind;
+    after = read_name(after, statement->name);
+    behind = next_word(after, next);
+    after = after_blanks(after);
+    after = strcmp(next, "TO") == 0 ? behind : after + (*after == '=');
+    next_word(after, next);
+    statement->is_default = strcmp(next, "DEFAULT") == 0;
+    if (!statement->is_default)
+        read_until(after, statement->value, sizeof statement->value);
+}
+
 /* The words of settings, and of what was prepared. */
 static void read_setting(struct statement *statement, const char *word, const char *after) {
     char next[MOST_WORD];
     const char *behind = next_word(after, next);
-    if (strcmp(word, "SET") == 0 || strcmp(word, "RESET") == 0) {
+    if (strcmp(word, "SET") == 0) {
         set(statement, SET, NULL, word);
+        read_set(statement, after);
+    } else if (strcmp(word, "RESET") == 0) {
+        set(statement, SET, NULL, word);
+        read_name(after, statement->name);
+        statement->is_default = 1;
     } else if (strcmp(word, "SHOW") == 0) {
         set(statement, SHOW, NULL, "SHOW");
         read_name(after, statement->name);
@@ -197,6 +223,8 @@ static void read_setting(struct statement *statement, const char *word, const ch
             strcpy(statement->name, "transaction_isolation");
     } else if (strcmp(word, "DISCARD") == 0) {
         set(statement, DISCARD, NULL, "DISCARD ALL");
+        statement->is_default = strcmp(next, "ALL") == 0;
+        strcpy(statement->name, "all");
     } else if (strcmp(word, "DEALLOCATE") == 0) {
         if (strcmp(next, "PREPARE") == 0) {
             after = behind;

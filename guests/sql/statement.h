@@ -13,7 +13,7 @@ enum kind {
     ROLLBACK,    /* or is given up: ROLLBACK, ABORT */
     SAVEPOINT,
     ROLLBACK_TO, /* a savepoint */
-    SET,         /* a setting: SET, RESET. Nothing is set */
+    SET,         /* a setting: SET, RESET */
     SHOW,
     DISCARD,     /* what was prepared: DISCARD, DEALLOCATE ALL */
     DEALLOCATE,  /* one that was */
@@ -26,6 +26,8 @@ struct statement {
     char tag[32];            /* how its end is told, but for a count of rows */
     int is_counted;          /* whether that has one */
     char name[64];           /* of the setting or of what was prepared */
+    char value[32];          /* that is to be set */
+    int is_default, is_local; /* it is to be as at the start; until the transaction's end */
 };
 
 /* Reads the first statement of a text. */

@@ -2,10 +2,7 @@
 
 #include <string.h>
 
-#include "clock.h"
-
-/* A statement may take so many milliseconds: nothing else goes on meanwhile. */
-#define MOST_TIME 20000
+#include "locks.h"
 
 #define COLLISION "the database is locked by another client's transaction, and this one has begun to read"
 
@@ -70,20 +67,50 @@ static const char *code_of(int said, const char *why) {
     }
 }
 
+void stop_failure(const struct session *session, struct failure *failure) {
+    static const char *const whys[][2] = {
+        [NOT_STOPPED] = {"57014", "canceling statement"},
+        [CANCELLED] = {"57014", "canceling statement due to user request"},
+        [TOOK_TOO_LONG] = {"57014", "canceling statement due to statement timeout"},
+        [WAITED_TOO_LONG] = {"55P03", "canceling statement due to lock timeout"},
+        [WAS_IDLE] = {"25P03", "terminating connection due to idle-in-transaction timeout"},
+    };
+    set_failure(failure, whys[session->stop][0], whys[session->stop][1]);
+}
+
 static enum outcome fails(struct session *session, int said, struct failure *failure) {
     const char *why = sqlite3_errmsg(session->database);
     if ((said & 0xff) == SQLITE_INTERRUPT)
-        why = "the statement took too long, and is ended";
-    set_failure(failure, code_of(said, why), why);
+        stop_failure(session, failure);
+    else
+        set_failure(failure, code_of(said, why), why);
     return FAILED;
 }
 
 static void tell(struct session *session, const char *sql) { sqlite3_exec(session->database, sql, NULL, NULL, NULL); }
 
+/* What there was before something was tried. */
+struct before {
+    int had, was_open;
+    uint32_t lowered, given;
+};
+
+static struct before before_of(const struct session *session) {
+    return (struct before){sqlite3_txn_state(session->database, NULL), !sqlite3_get_autocommit(session->database), lock_lowered(),
+                           session->turn.given};
+}
+
+/* Locks that were taken and given back within one turn are no news to those that wait. */
+static void leave_no_news(const struct session *session, const struct before *before) {
+    if (before->had == SQLITE_TXN_NONE && before->given == session->turn.given)
+        lock_forget_lowered(before->lowered);
+}
+
 /* What a statement that found the database locked is to do. */
-static enum outcome locked(struct session *session, int had, int was_open, struct failure *failure) {
+static enum outcome locked(struct session *session, const struct before *before, struct failure *failure) {
     int is_open = !sqlite3_get_autocommit(session->database);
-    if (!was_open || (is_open && had != SQLITE_TXN_READ))
+    leave_no_news(session, before);
+    if (!before->was_open || (is_open && before->had != SQLITE_TXN_READ))
         return WAITS;
     if (session->is_implicit)
         return COLLIDES;
@@ -106,6 +133,10 @@ static const char *shown(const char *name) {
         {"datestyle", "SELECT 'ISO, MDY' AS DateStyle"},
         {"timezone", "SELECT 'UTC' AS TimeZone"},
         {"search_path", "SELECT 'main' AS search_path"},
+        {"statement_timeout", "SELECT current_setting('statement_timeout') AS statement_timeout"},
+        {"lock_timeout", "SELECT current_setting('lock_timeout') AS lock_timeout"},
+        {"idle_in_transaction_session_timeout",
+         "SELECT current_setting('idle_in_transaction_session_timeout') AS idle_in_transaction_session_timeout"},
     };
     for (unsigned i = 0; i < sizeof values / sizeof values[0]; i++)
         if (strcmp(name, values[i][0]) == 0)
@@ -124,22 +155,22 @@ enum outcome prepare(struct session *session, struct statement *statement, sqlit
     }
     if (statement->kind == NOTHING || statement->kind == SET || statement->kind == DISCARD || statement->kind == DEALLOCATE)
         return ENDED;
-    int had = sqlite3_txn_state(session->database, NULL), was_open = !sqlite3_get_autocommit(session->database);
+    struct before before = before_of(session);
     const char *sql = statement->sql == NULL ? statement->begin : statement->sql, *after;
     int said = sqlite3_prepare_v2(session->database, sql, -1, prepared, &after);
     if (statement->sql == NULL)
         *rest = after;
     if (is_busy(said))
-        return locked(session, had, was_open, failure);
+        return locked(session, &before, failure);
     return said == SQLITE_OK ? ENDED : fails(session, said, failure);
 }
 
 enum outcome run(struct session *session, sqlite3_stmt *prepared, struct text *answer, row_taker *take_row, int64_t *rows,
                  struct failure *failure) {
-    int had = sqlite3_txn_state(session->database, NULL), was_open = !sqlite3_get_autocommit(session->database), said;
+    struct before before = before_of(session);
+    int said;
     uint32_t begun = answer->length;
     session->was_block = is_in_block(session);
-    session->deadline = clock_now() + MOST_TIME;
     *rows = 0;
     while ((said = sqlite3_step(prepared)) == SQLITE_ROW && !answer->is_full)
         take_row(session, prepared, ++*rows);
@@ -154,9 +185,25 @@ enum outcome run(struct session *session, sqlite3_stmt *prepared, struct text *a
         fails(session, said, failure);
     sqlite3_reset(prepared);
     if (!answer->is_full && is_busy(said))
-        outcome = locked(session, had, was_open, failure);
+        outcome = locked(session, &before, failure);
     text_cut(answer, begun);
     return outcome;
+}
+
+enum outcome set_setting(struct session *session, const struct statement *statement, struct failure *failure) {
+    if (statement->kind != SET && (statement->kind != DISCARD || !statement->is_default))
+        return ENDED;
+    int is_all = statement->is_default && strcmp(statement->name, "all") == 0;
+    int setting = is_all ? SETTINGS : setting_of(statement->name);
+    if (setting < 0)
+        return ENDED;
+    if (!settings_set(&session->settings, setting, statement->is_default ? NULL : statement->value, statement->is_local)) {
+        set_failure(failure, "22023", "a timeout is a number of milliseconds, or one with its unit: ms, s, min, h or d");
+        return FAILED;
+    }
+    session->is_asked = 0;
+    session_begin(session);
+    return ENDED;
 }
 
 int is_in_block(const struct session *session) {
@@ -172,15 +219,18 @@ int is_let_in(const struct session *session, enum kind kind) {
 enum outcome begin_implicit(struct session *session, int is_eager) {
     if (!sqlite3_get_autocommit(session->database) || session->is_failed)
         return ENDED;
+    struct before before = before_of(session);
     tell(session, is_eager ? "BEGIN IMMEDIATE" : "BEGIN");
     session->is_implicit = !sqlite3_get_autocommit(session->database);
-    return session->is_implicit ? ENDED : WAITS;
+    if (session->is_implicit)
+        return ENDED;
+    leave_no_news(session, &before);
+    return WAITS;
 }
 
 enum outcome end_implicit(struct session *session, struct failure *failure) {
     if (!session->is_implicit)
         return ENDED;
-    session->deadline = clock_now() + MOST_TIME;
     int said = sqlite3_exec(session->database, "COMMIT", NULL, NULL, NULL);
     if (is_busy(said))
         return WAITS;
@@ -201,6 +251,9 @@ void give_up_implicit(struct session *session) {
 }
 
 void has_ended(struct session *session, enum kind kind) {
+    session->waits_since = 0;
+    if (kind == ROLLBACK)
+        settings_end(&session->settings, 0);
     if (kind == SAVEPOINT)
         session->has_savepoint = 1;
     if (kind == COMMIT || kind == ROLLBACK)
@@ -219,6 +272,8 @@ void has_failed(struct session *session, enum kind kind) {
     }
     if (session->was_block)
         session->is_failed = kind != COMMIT;
+    if (session->was_block && kind == COMMIT)
+        settings_end(&session->settings, 0);
     if (session->was_block && !is_kept && !sqlite3_get_autocommit(session->database))
         tell(session, "ROLLBACK");
     session->was_block = 0;
@@ -237,6 +292,7 @@ int is_noted(struct session *session, struct statement *statement, struct failur
         if (is_open)
             tell(session, "ROLLBACK");
         session->is_failed = 0;
+        settings_end(&session->settings, 0);
         strcpy(statement->tag, "ROLLBACK");
         return 1;
     }

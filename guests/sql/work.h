@@ -23,6 +23,12 @@ enum outcome {
 
 void set_failure(struct failure *failure, const char *code, const char *why);
 
+/* Why a session was stopped. */
+void stop_failure(const struct session *session, struct failure *failure);
+
+/* Sets what SET, RESET or DISCARD ALL names, where it is one of these and that is something here. */
+enum outcome set_setting(struct session *session, const struct statement *statement, struct failure *failure);
+
 /* Compiles a statement, or what SQLite is told in its place; NULL where nothing is to run. `rest` is what comes after it. */
 enum outcome prepare(struct session *session, struct statement *statement, sqlite3_stmt **prepared, const char **rest,
                      struct failure *failure);

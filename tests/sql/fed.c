@@ -38,12 +38,9 @@ static struct place *place_of(const struct session *session) {
 
 void carry(struct session *session) {
     struct place *place = place_of(session);
-    do {
-        add_bytes(&place->said, session->out.bytes, session->out.length);
-        session->out.length = 0;
-        text_shrink(&session->out);
-    } while (session_resume(session));
-    if (!session->is_ending && !is_too_quiet(session))
+    add_bytes(&place->said, session->out.bytes + session->sent, session_sendable(session) - session->sent);
+    session->sent = session_sendable(session);
+    if (!session_is_sent(session) && !is_too_quiet(session))
         return;
     session_drop(session);
     place->session = NULL;
@@ -65,6 +62,11 @@ static void tell(struct place *place) {
     text_cut(&place->said, 0);
 }
 
+static void work(void) {
+    while (sessions_poll())
+        ;
+}
+
 static void do_to(struct place *place, const char *what, const char *with) {
     static uint8_t bytes[MOST];
     if (strcmp(what, "open") == 0) {
@@ -76,12 +78,13 @@ static void do_to(struct place *place, const char *what, const char *with) {
         else if (strcmp(what, "end") == 0)
             place->session->service->end_of_input(place->session);
         carry(place->session);
+        work();
     }
     tell(place);
 }
 
 static void turn(void) {
-    sessions_poll();
+    work();
     door_poll();
     for (int i = 0; i < PLACES; i++)
         if (places[i].session != NULL)
@@ -113,5 +116,6 @@ int main(int count, char **words) {
             session_drop(places[i].session);
         text_drop(&places[i].said);
     }
+    work();
     return 0;
 }

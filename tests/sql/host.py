@@ -15,11 +15,12 @@ GUEST, HERE = ROOT / "guests/sql", Path(__file__).resolve().parent
 # A smaller disk than the guest's: the database has 1 MiB, the journal and the log half of that each.
 FLAGS = ["-std=gnu11", "-O1", "-Wall", "-Wextra", "-Werror", "-DDISK_SECTORS=4096", "-DJOURNAL_SECTOR=2048", "-DLOG_SECTOR=3072",
          f"-I{HERE}", f"-I{GUEST}"]
-FILES = ["vfs", "locks"]
+FILES = ["vfs", "locks", "turns"]
 SANITIZERS = ["-g", "-fsanitize=address,undefined", "-fno-sanitize-recover=all"]
 UNITS = ["digest", "locks", "statement", "request"]
-SESSIONS = ["text", "log", "digest", "password", "scram", "statement", "session", "work", "query", "rows", "messages", "parameters",
-            "trigger", "extended", "postgres", "request", "table", "page", "door", "http"]
+SESSIONS = ["text", "log", "settings", "patterns", "functions", "digest", "password", "scram", "statement", "session", "work", "query",
+            "rows", "messages", "parameters", "trigger", "extended", "postgres", "request", "table", "page", "door", "http"]
+HOSTS = ["disk", "stacks"]  # what the guest has otherwise
 
 
 def library() -> str:
@@ -41,12 +42,12 @@ class Built:
         self.room, self.library = room, library()
         self.compiler = shutil.which("cc") or shutil.which("gcc") or sys.exit("there is no C compiler: apt-get install gcc")
         self.checks = self.sanitizers()
-        parts = {*FILES, *UNITS, *SESSIONS, "disk"}
+        parts = {*FILES, *UNITS, *SESSIONS, *HOSTS}
         with ThreadPoolExecutor(4) as pool:
             list(pool.map(self.compile, [*parts, "power", "served", "units"]))
             list(pool.map(lambda part: self.compile(part, "checked"), [*parts, "fed"]))
         self.link("units", [*UNITS, "units"])
-        self.link("power", [*FILES, "disk", "power"])
+        self.link("power", [*FILES, *HOSTS, "power"])
         self.link_served("")
         self.link_served("secret")
 
@@ -55,7 +56,7 @@ class Built:
 
     def compile(self, part: str, kind: str = "") -> None:
         """An object file, or one of a kind: `checked`."""
-        [source] = [place / f"{part}.c" for place in (GUEST, HERE) if (place / f"{part}.c").exists()]
+        source = next(place / f"{part}.c" for place in (HERE, GUEST) if (place / f"{part}.c").exists())
         self.run(*(self.checks if kind else []), "-c", source, "-o", self.room / (f"{part}_{kind}".rstrip("_") + ".o"))
 
     def link(self, name: str, parts: list[str], *options: str) -> None:
@@ -66,8 +67,8 @@ class Built:
         name = f"served_{password}".rstrip("_")
         (self.room / f"{name}_key.c").write_text(secret(password))
         self.run("-c", self.room / f"{name}_key.c", "-o", self.room / f"{name}_key.o")
-        self.link(name, [*FILES, *SESSIONS, "disk", "served", f"{name}_key"])
-        checked = [f"{part}_checked" for part in [*FILES, *SESSIONS, "disk", "fed"]]
+        self.link(name, [*FILES, *SESSIONS, *HOSTS, "served", f"{name}_key"])
+        checked = [f"{part}_checked" for part in [*FILES, *SESSIONS, *HOSTS, "fed"]]
         self.link(name.replace("served", "fed"), [*checked, f"{name}_key"], *self.checks)
 
     def sanitizers(self) -> list[str]:
@@ -86,7 +87,7 @@ def own(room: Path, amalgamation: Path) -> Built:
     options = (amalgamation / "options").read_text().split()
     (room / "served_own_key.c").write_text(secret(""))
     sources = [GUEST / f"{name}.c" for name in dict.fromkeys([*FILES, *SESSIONS])]
-    sources += [HERE / f"{name}.c" for name in ("disk", "served", "own")]
+    sources += [HERE / f"{name}.c" for name in (*HOSTS, "served", "own")]
     flags = ["-std=gnu11", "-O1", "-w", "-DLONGDOUBLE_TYPE=__float128", *options, f"-I{amalgamation}", f"-I{GUEST}"]
     parts = [room / "served_own_key.c", *sources, amalgamation / "sqlite3.c", "-lm"]
     subprocess.run([built.compiler, *flags, "-o", room / "served_own", *parts], check=True)

@@ -76,18 +76,14 @@ static void forget(int place) {
 
 /* Sends what a socket takes. Answers whether the connection is there still. */
 static int send_to(struct session *session) {
-    struct text *out = &session->out;
-    do {
-        while (session->sent < out->length) {
-            ssize_t count = send(descriptor_of(session), out->bytes + session->sent, out->length - session->sent, MSG_NOSIGNAL);
-            if (count < 0)
-                return errno == EAGAIN;
-            session->sent += (uint32_t)count;
-        }
-        session->sent = out->length = 0;
-        text_shrink(out);
-    } while (session_resume(session));
-    return !session->is_ending;
+    uint32_t sendable = session_sendable(session);
+    while (session->sent < sendable) {
+        ssize_t count = send(descriptor_of(session), session->out.bytes + session->sent, sendable - session->sent, MSG_NOSIGNAL);
+        if (count < 0)
+            return errno == EAGAIN;
+        session->sent += (uint32_t)count;
+    }
+    return !session_is_sent(session);
 }
 
 void carry(struct session *session) {
@@ -137,7 +133,7 @@ static void accept_one(int listener, const struct service *service) {
 static void serve(const int listeners[2]) {
     const struct service *services[2] = {&postgres, &http};
     struct pollfd watched[MOST + 3];
-    int places[MOST + 3];
+    int places[MOST + 3], is_at_work = 0;
     for (;;) {
         int count = 0;
         watched[count++] = (struct pollfd){STDIN_FILENO, POLLIN, 0};
@@ -145,12 +141,13 @@ static void serve(const int listeners[2]) {
             watched[count++] = (struct pollfd){listeners[i], POLLIN, 0};
         for (int i = 0; i < MOST; i++)
             if (sessions[i] != NULL) {
-                int is_stopped = (sessions[i]->is_waiting || sessions[i]->is_held) && sessions[i]->in.length >= WINDOW;
-                short events = (is_stopped ? 0 : POLLIN) | (sessions[i]->out.length > 0 ? POLLOUT : 0);
+                int is_busy = session_is_busy(sessions[i]) || sessions[i]->is_held;
+                int is_stopped = is_busy && sessions[i]->in.length + sessions[i]->later.length >= WINDOW;
+                short events = (is_stopped ? 0 : POLLIN) | (sessions[i]->sent < session_sendable(sessions[i]) ? POLLOUT : 0);
                 places[count] = i;
                 watched[count++] = (struct pollfd){descriptor_of(sessions[i]), events, 0};
             }
-        poll(watched, (nfds_t)count, 1);
+        poll(watched, (nfds_t)count, is_at_work ? 0 : 1);
         if (watched[0].revents != 0)
             return;
         for (int i = 3; i < count; i++) {
@@ -163,7 +160,7 @@ static void serve(const int listeners[2]) {
         for (int i = 0; i < 2; i++)
             if (watched[1 + i].revents != 0)
                 accept_one(listeners[i], services[i]);
-        sessions_poll();
+        is_at_work = sessions_poll();
         door_poll();
     }
 }

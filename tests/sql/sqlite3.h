@@ -9,6 +9,8 @@ typedef int64_t sqlite3_int64;
 typedef uint64_t sqlite3_uint64;
 typedef struct sqlite3 sqlite3;
 typedef struct sqlite3_stmt sqlite3_stmt;
+typedef struct sqlite3_context sqlite3_context;
+typedef struct sqlite3_value sqlite3_value;
 
 enum {
     SQLITE_OK = 0, SQLITE_ERROR = 1, SQLITE_BUSY = 5, SQLITE_LOCKED = 6, SQLITE_NOMEM = 7, SQLITE_READONLY = 8, SQLITE_INTERRUPT = 9,
@@ -29,7 +31,9 @@ enum {
     SQLITE_IOCAP_ATOMIC512 = 2, SQLITE_IOCAP_SAFE_APPEND = 0x200, SQLITE_IOCAP_SEQUENTIAL = 0x400,
     SQLITE_IOCAP_POWERSAFE_OVERWRITE = 0x1000,
 };
-enum { SQLITE_LIMIT_LIKE_PATTERN_LENGTH = 8, SQLITE_CONFIG_MALLOC = 4, SQLITE_CONFIG_LOG = 16, SQLITE_FCNTL_FILE_POINTER = 7 };
+enum { SQLITE_LIMIT_LENGTH = 0, SQLITE_CONFIG_MALLOC = 4, SQLITE_CONFIG_LOG = 16, SQLITE_FCNTL_FILE_POINTER = 7 };
+enum { SQLITE_DBCONFIG_NO_CKPT_ON_CLOSE = 1006, SQLITE_CHECKPOINT_PASSIVE = 0, SQLITE_CHECKPOINT_RESTART = 2 };
+enum { SQLITE_UTF8 = 1, SQLITE_DETERMINISTIC = 0x800, SQLITE_INNOCUOUS = 0x200000 };
 
 typedef struct sqlite3_file sqlite3_file;
 typedef struct sqlite3_io_methods sqlite3_io_methods;
@@ -110,6 +114,9 @@ int sqlite3_strnicmp(const char *, const char *, int);
 
 int sqlite3_open(const char *, sqlite3 **);
 int sqlite3_close(sqlite3 *);
+int sqlite3_db_config(sqlite3 *, int, ...);
+void sqlite3_interrupt(sqlite3 *);
+int sqlite3_wal_checkpoint_v2(sqlite3 *, const char *, int, int *, int *);
 int sqlite3_extended_result_codes(sqlite3 *, int);
 int sqlite3_limit(sqlite3 *, int, int);
 void sqlite3_progress_handler(sqlite3 *, int, int (*)(void *), void *);
@@ -119,6 +126,24 @@ int sqlite3_get_autocommit(sqlite3 *);
 int sqlite3_txn_state(sqlite3 *, const char *);
 int sqlite3_changes(sqlite3 *);
 int sqlite3_exec(sqlite3 *, const char *, int (*)(void *, int, char **, char **), void *, char **);
+
+int sqlite3_create_function(sqlite3 *, const char *, int, int, void *, void (*)(sqlite3_context *, int, sqlite3_value **),
+                            void (*)(sqlite3_context *, int, sqlite3_value **), void (*)(sqlite3_context *));
+void *sqlite3_user_data(sqlite3_context *);
+sqlite3 *sqlite3_context_db_handle(sqlite3_context *);
+int sqlite3_value_type(sqlite3_value *);
+const unsigned char *sqlite3_value_text(sqlite3_value *);
+const void *sqlite3_value_blob(sqlite3_value *);
+int sqlite3_value_bytes(sqlite3_value *);
+sqlite3_value *sqlite3_value_dup(const sqlite3_value *);
+void sqlite3_value_free(sqlite3_value *);
+void sqlite3_result_int(sqlite3_context *, int);
+void sqlite3_result_text(sqlite3_context *, const char *, int, void (*)(void *));
+void sqlite3_result_value(sqlite3_context *, sqlite3_value *);
+void sqlite3_result_error(sqlite3_context *, const char *, int);
+void sqlite3_result_error_code(sqlite3_context *, int);
+void sqlite3_result_error_nomem(sqlite3_context *);
+void sqlite3_result_error_toobig(sqlite3_context *);
 
 int sqlite3_complete(const char *);
 int sqlite3_prepare_v2(sqlite3 *, const char *, int, sqlite3_stmt **, const char **);

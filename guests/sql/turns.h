@@ -1,0 +1,24 @@
+/* Work in turns: what takes long is left in its midst after some milliseconds, so that the network and others have their turns, and goes
+   on later where it stood. */
+#ifndef TURNS_H
+#define TURNS_H
+
+#include "stacks.h"
+
+struct turn {
+    int is_begun;   /* the work has, and isn't over */
+    uint32_t given; /* how many it was given */
+    void (*act)(void *with);
+    void *with;
+    struct stack stack;
+};
+
+/* Gives work a turn: its first, by `act`, or the next. Answers 0, and nothing has come of it, where there is no memory for a further one
+   beside that which has begun. */
+int turn_give(struct turn *turn);
+
+/* Within the work: leaves it if the turn's time is over, or at once. Elsewhere they do nothing. */
+void turn_look(void);
+void turn_leave(void);
+
+#endif
