@@ -15,6 +15,11 @@ INTERRUPT = 1 << 63
 SPINS, TRAPS = "stands on one instruction with interrupts off", "traps over and over at one pc"
 
 
+def told(found: dict) -> str:
+    """What a watch has found, as a sentence."""
+    return "the guest can do nothing more: it {what}; pc {pc}, mcause {mcause}, mepc {mepc}".format(**found)
+
+
 class Watch:
     """Two guests are told. One whose registers, pc and all, are the same after numbers of steps that have no common divisor stands on one
     instruction, which jumps to itself or traps to itself; where interrupts are off as well, nothing makes it go on. And one that is seen

@@ -3,7 +3,7 @@ from binascii import unhexlify
 from collections import OrderedDict
 
 from host import messages
-from host.dead import Watch
+from host.dead import Watch, told
 from host.node import LOOK, PIECE, STEPS, arrive, looks, text_from
 from host.pacing import TRY_EVERY, Pacer
 from host.text import MOST_PAGE, pages_and_frames
@@ -278,7 +278,7 @@ class Live:
         one = self.pending[number]
         if begin == 0:
             if self.watch.see(data, number):
-                self.log.error("the guest can do nothing more: it {what}; pc {pc}, mcause {mcause}, mepc {mepc}".format(**self.watch.found))
+                self.log.error(told(self.watch.found))
             pages, frames = pages_and_frames(data, one.total)
             self.counts.checkpoint_pages += pages
             one.is_silent = frames == 0

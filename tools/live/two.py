@@ -5,7 +5,7 @@ import sys
 import time
 
 from guests.lib.frames import EVERYONE
-from host import ctl, keys
+from host import ctl, dead, keys
 from host.started import Host, Hub, free_ports
 from tools.live.network import client_mac
 from tools.live.screen import several, short
@@ -95,7 +95,7 @@ class TwoLoop:
         now = clock.now()
         self.begun, self.looked_at = now, 0.0
         self.stopped = self.place = None  # since when no host is live; whether the standby is to be told as soon as that is so
-        self.silent = self.pause = None
+        self.silent = self.pause = self.dead = None
         self.came = self.went = self.dropped = self.epochs = self.failures = 0
         self.period, self.next_failure = now, None
         self.is_over = False
@@ -171,6 +171,10 @@ class TwoLoop:
             if host.process is not None and host.process.poll() is not None and number == two.live and self.stopped is None:
                 self.has_stopped(now, "ended by itself")
         live = two.statuses[two.live]
+        found = live["dead"] if live else None
+        if found is not None and found != self.dead:
+            self.screen.tell(f"{dead.told(found)}; its standby has the same guest; 'tools/why {self.plan.script}' may say more")
+        self.dead = found
         self.epochs = live["cut"] or self.epochs if live else self.epochs
 
     def press(self, key, now):
@@ -242,7 +246,7 @@ class TwoLoop:
         if self.stopped is not None or live is None:
             return [f"host {two.live} is gone", f"{short(connections)} conn", f"out {short(self.went)}"]
         mode = {"paired": f"live, {two.other} standby", "filling": f"live, {two.other} fills"}.get(live["mode"], "alone")
-        parts = [f"host {two.live} {mode}", f"gen {live['generation']}", f"epoch {short(self.epochs)}",
+        parts = [f"host {two.live} {mode}", *["guest dead"] * (live["dead"] is not None), f"gen {live['generation']}", f"epoch {short(self.epochs)}",
                  f"{short(connections)} conn {short(rate)}/s"]
         parts += [f"pause {self.pause * 1000:.0f} ms"] if self.pause is not None else []
         parts += [f"late {live['late_ms'] / 1000:.1f} s"] if live["late_ms"] >= 100 else []
