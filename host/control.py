@@ -4,6 +4,9 @@ import os
 import socket
 
 from host import metrics
+from host.files import Place
+from host.guarded import guarded
+from host.tasks import refusal
 from host.verbs import Verbs
 
 MOST_CLIENTS = 32
@@ -17,7 +20,7 @@ class Client:
         line.setblocking(False)
         self.line, self.begun = line, now
         self.came, self.unsent = bytearray(), bytearray()
-        self.waits = self.is_ending = False  # for an answer that takes longer; for its last answer to go out
+        self.waits = self.is_ending = False  # for an answer; for its last answer to go out
 
     def fileno(self):
         return self.line.fileno()
@@ -59,8 +62,11 @@ class Server:
     def watched(self, reading, writing):
         """Adds what a wait is to look at."""
         reading.append(self.listener)
-        reading += [client for client in self.clients if not client.waits and not client.is_ending]
+        reading += [client for client in self.clients if self.hears(client)]
         writing += [client for client in self.clients if client.unsent]
+
+    def hears(self, client: Client) -> bool:
+        return not client.waits and not client.is_ending
 
     def due(self, now):
         return None
@@ -95,35 +101,31 @@ class Control(Server):
     """Raises OSError where the socket can't be had."""
 
     def __init__(self, host, path):
-        self.path, self.verbs = path, Verbs(host)
+        self.verbs = Verbs(host)
         os.makedirs(os.path.dirname(os.path.abspath(path)), exist_ok=True)
-        if os.path.exists(path):
-            if is_answered(path):
-                raise OSError(None, f"another daemon listens at {path}")
-            os.unlink(path)
         listener = socket.socket(socket.AF_UNIX)
-        kept = os.umask(0o177)
-        try:
-            listener.bind(path)
-        except OSError as error:
-            raise OSError(None, f"the control socket {path} can't be had: {error.strerror}") from None
-        finally:
-            os.umask(kept)
+        self.place = Place(path, listener, "the control socket")
         super().__init__(host, listener)
 
     def did(self, sentence, **more):
         return self.verbs.did(sentence, **more)
 
-    def serve(self, client, is_open):
-        while client in self.clients and not client.waits and (at := client.came.find(b"\n")) >= 0:
-            line = bytes(client.came[:at])
-            del client.came[:at + 1]
-            client.waits = True
-            self.verbs.do(line, lambda answer: self.answered(client, answer))
-        if client in self.clients and not client.waits and len(client.came) > MOST_LINE:
-            self.answered(client, {"ok": False, "refused": "Malformed", "why": f"a line of more than {MOST_LINE} bytes"})
-            is_open = False
-        if not is_open and not client.waits:
+    def hears(self, client: Client) -> bool:
+        """A client is heard again once what it has asked is answered."""
+        return super().hears(client) and b"\n" not in client.came
+
+    def serve(self, client: Client, is_open: bool) -> None:
+        """One request of a client, so that many take no long turn of the loop."""
+        line, newline, rest = client.came.partition(b"\n")
+        if client.waits:
+            return
+        if len(line) > MOST_LINE:
+            self.answered(client, refusal("Malformed", f"a line of more than {MOST_LINE} bytes"))
+            self.drop(client)
+        elif newline:
+            client.came, client.waits = rest, True
+            self.verbs.do(bytes(line), lambda answer: self.answered(client, answer))
+        elif not is_open:
             self.drop(client)
 
     def answered(self, client, answer):
@@ -145,19 +147,7 @@ class Control(Server):
 
     def close(self):
         super().close()
-        try:
-            os.unlink(self.path)
-        except OSError:
-            pass
-
-
-def is_answered(path):
-    with socket.socket(socket.AF_UNIX) as line:
-        try:
-            line.connect(path)
-        except OSError:
-            return False
-        return True
+        self.place.leave()
 
 
 class Scrapes(Server):
@@ -187,10 +177,15 @@ class Scrapes(Server):
         if b"\r\n\r\n" in client.came or b"\n\n" in client.came:
             words = client.came.split(b"\n", 1)[0].split()
             is_found = len(words) >= 2 and words[0] == b"GET" and words[1] in (b"/metrics", b"/")
-            body = metrics.text(self.host).encode() if is_found else b"GET /metrics is all there is\n"
-            head = f"HTTP/1.0 {'200 OK' if is_found else '404 Not Found'}\r\nContent-Type: text/plain; version=0.0.4\r\n"
+            status, body = self.scraped() if is_found else ("404 Not Found", "GET /metrics is all there is\n")
+            head = f"HTTP/1.0 {status}\r\nContent-Type: text/plain; version=0.0.4\r\nContent-Length: {len(body.encode())}\r\n"
             client.is_ending = True
-            if not client.write(f"{head}Content-Length: {len(body)}\r\nConnection: close\r\n\r\n".encode() + body):
+            if not client.write(f"{head}Connection: close\r\n\r\n{body}".encode()):
                 self.drop(client)
         elif not is_open or len(client.came) > 8192:
             self.drop(client)
+
+    def scraped(self) -> tuple[str, str]:
+        """The status and the body of an answer with the metrics."""
+        return guarded(self.host.log, "a scrape of the metrics", lambda: ("200 OK", metrics.text(self.host)),
+                       lambda why: ("500 Internal Server Error", why + "\n"))

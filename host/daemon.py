@@ -4,22 +4,26 @@ import select
 import time
 
 from host import messages, network
+from host.boot import boot_of
 from host.control import Control, Scrapes
+from host.guarded import guarded
 from host.link import Link
 from host.live import Live
 from host.log.disk import Disk
 from host.log.kept import Kept
 from host.meeting import Meeting
 from host.metrics import Counts
-from host.node import Node
-from host.settings import boot_line, version
+from host.node import Node, Refused
+from host.settings import version
 from host.signals import AtOnce, Signals
 from host.standby import Broken, Standby
 from host.state import State
+from host.tasks import Drain
 
 MOST_FRAMES = 32  # from the network, before the guest runs again
 VERSION = version()
 LONGEST_WAIT = 10.0  # seconds
+MOST_WHY = 200  # characters, of a reason that goes over the link
 HEARD_AT_ONCE = 3  # acknowledgements that let nothing out
 LOOK_AGAIN = 0.5  # seconds, at a network with which something is wrong
 MEND_AGAIN = 1.0  # seconds: somebody else may undo it
@@ -115,22 +119,26 @@ class Daemon:
         self.counts.attachments += 1
         self.log.info(f"this host is ready as a standby of {offer['name']}, for generation {offer['generation']}")
 
-    def boot(self):
-        """Raises Refused."""
-        line = boot_line(self.settings.guest)
-        pages, sectors = line.split()[1:3]
-        life = secrets.token_hex(8)
-        self.state.keep(life, 1, "booted")
-        self.node.ask(line)
-        self.life, self.shape = life, (int(pages), int(sectors))
+    def boot(self) -> None:
+        """Raises BadGuest, Refused, OSError; the host is empty then."""
+        boot, life = boot_of(self.settings.guest), secrets.token_hex(8)
+        self.node.ask(boot.line)
+        try:
+            self.state.keep(life, 1, "booted")
+        except OSError:
+            self.become_empty()
+            raise
+        self.life, self.shape = life, (boot.pages, boot.sectors)
         self.start(Live(self, 1, 0, self.link.now()))  # the guest isn't late by the time in which it was booted
         self.log.info(f"booted {self.settings.guest}: life {self.life}")
 
-    def go_live(self, now):
-        """A standby with a full checkpoint goes on as the guest. Raises Refused."""
+    def go_live(self, now: float, word: bytes | None = None) -> None:
+        """A standby with a full checkpoint goes on as the guest; who told it so gets this word. Raises Refused."""
         answer = self.node.ask("golive")
-        self.link.close()
         self.standby = None
+        if word is not None:
+            self.link.send(word, now)
+        self.link.close()
         self.start(Live(self, answer.number(1), answer.number(3), now))
         self.counts.failovers += 1
         self.log.info(f"live in generation {self.generation}, from step {self.live.steps}")
@@ -144,14 +152,14 @@ class Daemon:
 
     def freeze(self):
         """The guest stops, and is kept."""
-        self.live.is_stopped = self.live.is_frozen = True
+        self.live.stop(self.link.now())
+        self.live.is_frozen = True
         self.network.down()
         self.link.close()
         self.log.info("frozen: the guest is kept, and doesn't run")
 
     def thaw(self, now):
-        self.live.is_stopped = self.live.is_frozen = False
-        self.live.start_clock(now)
+        self.live.go_on(now)
         self.network.up()
         self.network.put(network.announcement(self.settings.guest_address))
         self.log.info("live again")
@@ -172,6 +180,8 @@ class Daemon:
         """A message of this attachment."""
         if self.live and kind == messages.ACK:
             self.live.acknowledge(*messages.numbers(body), now)
+        elif self.is_handing_over and kind in (messages.LIVE, messages.STAYS):
+            self.heard_of_hand_over(kind, body, now)
         elif self.standby and kind == messages.TEXT:
             try:
                 self.standby.text(body, now)
@@ -185,11 +195,33 @@ class Daemon:
         else:
             raise messages.Malformed(f"a message of kind {kind} to a host that is {self.role}")
 
-    def told_to_go_live(self, generation, number, now):
-        """The live host has drained and stopped, and says so."""
-        if (generation, number) == (self.standby.generation, self.standby.committed):
-            self.log.info("the live host has drained, and tells this one to go live")
-            self.go_live(now)
+    def told_to_go_live(self, generation: int, number: int, now: float) -> None:
+        """The live host has drained and stopped, and says so; it gives the guest up once it hears that this one is live."""
+        standby = self.standby
+        if (generation, number) != (standby.generation, standby.committed):
+            self.stay(f"it has checkpoint {standby.committed} of generation {standby.generation}", now)
+            return
+        self.log.info("the live host has drained, and tells this one to go live")
+        try:
+            self.go_live(now, messages.message(messages.LIVE, standby.session, messages.NUMBER.pack(generation, number)))
+        except Refused as refused:
+            self.stay(f"its node refused: {refused}", now)
+
+    def stay(self, why: str, now: float) -> None:
+        """The live host has drained, and this one doesn't go live: so the guest goes on there."""
+        self.log.error(f"the live host has drained, and this one can't go live: {why}")
+        self.link.send(messages.told(messages.STAYS, self.standby.session, why=why[:MOST_WHY]), now)
+
+    @property
+    def is_handing_over(self) -> bool:
+        """Whether the standby was told to go live, and its answer is awaited."""
+        return isinstance(self.task, Drain) and self.task.is_told
+
+    def heard_of_hand_over(self, kind: int, body: bytes, now: float) -> None:
+        if kind == messages.STAYS:
+            self.task.stays(messages.fields(kind, body)["why"], now)
+        elif messages.numbers(body) == (self.live.generation, self.task.last):
+            self.task.is_live()
 
     def lost(self):
         """The attached link is gone."""
@@ -244,10 +276,13 @@ class Daemon:
         if self.live is not None:
             self.live.turn(now)
         if self.task is not None:
-            self.task.turn(now)
+            self.turn_task(now)
         for one in self.served:
             if one.clients or one.late or one.listener in readable:
                 one.turn(readable, writable, now)
+
+    def turn_task(self, now: float) -> None:
+        guarded(self.log, self.task.name, lambda: self.task.turn(now), self.task.fail)
 
     def is_quiet(self):
         """Whether nothing is under way but epochs, which go over the link."""

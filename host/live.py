@@ -55,9 +55,24 @@ class Live:
         self.watch, self.pacer = Watch(), Pacer(self)
         self.start_clock(now)
 
-    def start_clock(self, now):
+    def start_clock(self, now: float) -> None:
         self.guest_begun, self.made = now, 0  # since when the guest runs, and the steps that it made since then
         self.epoch_begun = self.moved_at = self.ran_at = now
+
+    def stop(self, now: float) -> None:
+        """The guest makes no step until it goes on."""
+        self.end_wait(now)
+        self.is_stopped = True
+
+    def go_on(self, now: float) -> None:
+        self.is_stopped = self.is_frozen = False
+        self.start_clock(now)
+
+    def end_wait(self, now: float) -> None:
+        """The guest doesn't wait any more, and the time for which it did is left out."""
+        if self.waited_since is not None:
+            self.skip(now - self.waited_since)
+            self.waited_since, self.ran_at = None, now
 
     # What there is to do, and when.
 
@@ -133,11 +148,9 @@ class Live:
         if self.has_arrived:
             self.moved_at = now
         if self.waits:
-            self.waited_since = self.waited_since or now
+            self.waited_since = now if self.waited_since is None else self.waited_since
             return
-        if self.waited_since is not None:
-            self.skip(now - self.waited_since)
-            self.waited_since, self.ran_at = None, now
+        self.end_wait(now)
         ends = self.epoch_ends(now)
         if not ends and not self.has_arrived and now < self.runs_at(now):
             return
@@ -370,6 +383,4 @@ class Live:
         self.pending, self.cut, self.acked, self.is_full = OrderedDict(), None, None, False
         self.moved_at = now
         self.put(answer.frames, now)
-        if self.waited_since:
-            self.skip(now - self.waited_since)
-            self.waited_since = None
+        self.end_wait(now)

@@ -13,12 +13,14 @@ before there is one), and its body:
     8 ACK       the standby: generation and number (8 bytes each) of the last commit
     9 PING      both, where nothing else was said for a quarter of `link_ms`
     10 GO_LIVE  who was live, and has drained and stopped: generation and number of the last checkpoint
+    11 LIVE     who was told so: it is live, from that checkpoint on. Only now the other gives the guest up
+    12 STAYS    who was told so: JSON, why it isn't live. The other one's guest goes on
 
 FIELDS has the fields of the JSON objects."""
 import json
 import struct
 
-HELLO, OFFER, READY, RESUME, NO, OVER, TEXT, ACK, PING, GO_LIVE = range(1, 11)
+HELLO, OFFER, READY, RESUME, NO, OVER, TEXT, ACK, PING, GO_LIVE, LIVE, STAYS = range(1, 13)
 LENGTH, HEAD = struct.Struct(">I"), struct.Struct(">IB16s")
 PLACE = struct.Struct(">QQQQ")  # of a text's bytes: generation, number, where they begin, and how many the whole text has, at most
 TEXT_HEAD = struct.Struct(">IB16sQQQQ")  # both
@@ -57,7 +59,7 @@ def taken(buffer, most):
         length, kind, session = HEAD.unpack_from(buffer, at)
         if not 17 <= length <= most:
             break
-        if not HELLO <= kind <= GO_LIVE:
+        if not HELLO <= kind <= STAYS:
             raise Malformed(f"a message of kind {kind}")
         begin, behind = at + HEAD.size, at + LENGTH.size + length
         if behind > end:
@@ -79,6 +81,7 @@ FIELDS = {
     RESUME: {"name": TEXTUAL, "instance": TEXTUAL},
     NO: {"why": TEXTUAL, "role": TEXTUAL, "name": TEXTUAL},
     OVER: {"why": TEXTUAL, "name": TEXTUAL},
+    STAYS: {"why": TEXTUAL},
 }
 
 

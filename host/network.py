@@ -6,6 +6,7 @@ import os
 import socket
 import struct
 
+from host.files import Place
 from host.interfaces import Interfaces
 
 GUEST_MAC = bytes.fromhex("020000000001")
@@ -213,17 +214,14 @@ class Packets(Quiet):
 
     def __init__(self, path):
         super().__init__()
-        self.path, self.is_up, self.line = path, False, None
+        self.is_up, self.line = False, None
         try:
-            if os.path.exists(path):
-                os.unlink(path)
             self.socket = socket.socket(socket.AF_UNIX, socket.SOCK_SEQPACKET)
             self.socket.setblocking(False)
-            self.socket.bind(path)
-            os.chmod(path, 0o600)
+            self.place = Place(path, self.socket, "the socket for frames")
             self.socket.listen(4)
         except OSError as error:
-            raise Unusable(f"the socket {path} can't be had: {error.strerror}") from None
+            raise Unusable(error.strerror) from None
 
     def watched(self):
         return [self.socket] + ([self.line] if self.line and self.is_up else [])
@@ -274,10 +272,7 @@ class Packets(Quiet):
     def close(self):
         self.hang_up()
         self.socket.close()
-        try:
-            os.unlink(self.path)
-        except OSError:
-            pass
+        self.place.leave()
 
 
 def network(settings):

@@ -5,9 +5,11 @@ import re
 import shlex
 import socket
 import tomllib
+from collections.abc import Callable
 from dataclasses import dataclass, field
 from pathlib import Path
 
+from host.boot import BadGuest, boot_of
 from host.connection import contexts
 
 ROOT = Path(__file__).resolve().parents[1]
@@ -35,7 +37,7 @@ class Settings:
     key: str | None = None
     certificate: str | None = None
     peer_certificate: str | None = None
-    plain: bool = False
+    plain: bool = False  # whether the link isn't encrypted
     link_ms: float = 1.0
     epoch_ms: float = 0.01
     steps_per_ms: int = 1000
@@ -51,9 +53,9 @@ class Settings:
     log_level: str = "info"
 
 
-def text(value):
-    if not isinstance(value, str) or not value or "\0" in value:
-        raise Mistake("must be a text that isn't empty")
+def text(value: object) -> str:
+    if not isinstance(value, str) or not value or "\0" in value or any("\ud800" <= letter <= "\udfff" for letter in value):
+        raise Mistake("must be a text that isn't empty, of Unicode's characters but NUL")
     return value
 
 
@@ -75,12 +77,14 @@ def socket_path(value):
     return value
 
 
-def words(value):
-    if isinstance(value, str):
-        value = shlex.split(value)
-    if not isinstance(value, list) or not value or not all(isinstance(word, str) and word for word in value):
-        raise Mistake("must be a list of words, the program first")
-    return value
+def words(value: object) -> list[str]:
+    try:
+        found = shlex.split(value) if isinstance(value, str) else value
+        if not isinstance(found, list) or not found:
+            raise ValueError
+        return [text(word) for word in found]
+    except (ValueError, Mistake):
+        raise Mistake("must be a list of words, the program first") from None
 
 
 def endpoint(value):
@@ -101,21 +105,25 @@ def loopback_endpoint(value):
     return found
 
 
-def truth(value):
-    if value in (True, False) and isinstance(value, bool):
-        return value
-    if value in ("true", "false"):
-        return value == "true"
-    raise Mistake("must be true or false")
+INSECURE = "insecure"
 
 
-def milliseconds(least, most):
-    def read(value):
+def insecure(value: object) -> bool:
+    """Whether there is no encryption, which takes the word for it."""
+    if value is False or value == "false":
+        return False
+    if value == INSECURE:
+        return True
+    raise Mistake(f'must be "{INSECURE}" or false: each user of this machine can have the guest\'s memory over a link without encryption')
+
+
+def milliseconds(least: int, most: int) -> Callable[[object], float]:
+    def read(value: object) -> float:
         try:
             found = float(value) if not isinstance(value, bool) else None
-        except (TypeError, ValueError):
+        except (TypeError, ValueError, OverflowError):
             found = None
-        if found is None or not least <= found <= most:
+        if found is None or not least <= found <= most:  # as no number is that isn't finite
             raise Mistake(f"must be milliseconds, from {least} to {most}")
         return found / 1000
     return read
@@ -156,6 +164,8 @@ def ipv4(value):
         raise Mistake(f"must be an IPv4 address, as 10.0.0.1, and isn't: {value}") from None
 
 
+DRAIN_MS = milliseconds(1, 600000)
+
 # By key: how its value is read, and what the option's help says.
 KEYS = {
     "name": (short_text, "how this host calls itself"),
@@ -168,11 +178,11 @@ KEYS = {
     "key": (text, "this host's key"),
     "certificate": (text, "this host's certificate"),
     "peer_certificate": (text, "the peer's certificate"),
-    "plain": (truth, "the link isn't encrypted: over the loopback alone"),
+    "plain": (insecure, f"{INSECURE}: the link isn't encrypted, over the loopback alone, and each user of this machine can read the guest"),
     "link_ms": (milliseconds(50, 60000), "a link over which nothing comes for so long is closed"),
     "epoch_ms": (milliseconds(1, 1000), "the length of an epoch"),
     "steps_per_ms": (count(1_000_000), "what the guest was built for"),
-    "drain_ms": (milliseconds(1, 600000), "the longest that a drain waits, of a host that is told to end too"),
+    "drain_ms": (DRAIN_MS, "the longest that a drain waits, of a host that is told to end too"),
     "network": (one_of("tap", "socket", "none"), "tap, socket or none"),
     "tap": (interface, "the tap interface"),
     "bridge": (interface, "the bridge that the tap is put on"),
@@ -203,6 +213,8 @@ def from_file(path):
         said = re.fullmatch(r"(.*) \(at (?:line (\d+), column \d+|end of document)\)", str(error), re.S)
         line = said[2] or max(1, len(source.splitlines())) if said else 1
         raise Mistakes(f"{path}, line {line}: this isn't TOML: {said[1] if said else error}") from None
+    except RecursionError:
+        raise Mistakes(f"{path}: this isn't a configuration: it is nested too deep") from None
     return {key: (value, f"{path}, line {line_of(source, key)}") for key, value in found.items()}
 
 
@@ -249,8 +261,11 @@ def together(settings, given):
         path = getattr(settings, key)
         if path is not None and not os.access(path, os.R_OK):
             yield key, f"{key} can't be read: {path}"
-    if settings.guest and os.access(settings.guest, os.R_OK) and boot_line(settings.guest) is None:
-        yield "guest", f"{settings.guest} has no line 'boot PAGES SECTORS CLIENTS ..'"
+    if settings.guest and os.access(settings.guest, os.R_OK):
+        try:
+            boot_of(settings.guest)
+        except BadGuest as bad:
+            yield "guest", str(bad)
     if settings.network == "socket" and settings.frames is None:
         yield "network", "network is socket, and frames isn't given"
     for key in ("tap", "bridge"):
@@ -274,12 +289,3 @@ def version():
         return (ROOT / "VERSION").read_text().strip()
     except OSError:
         return "unknown"
-
-
-def boot_line(path):
-    """The first boot line of a file, or None."""
-    try:
-        with open(path, errors="replace") as lines:
-            return next((line.rstrip("\n") for line in lines if line.startswith("boot ")), None)
-    except OSError:
-        return None

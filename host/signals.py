@@ -10,8 +10,8 @@ from host.tasks import Drain
 ENDS, IDLE = (signal.SIGINT, signal.SIGTERM), (signal.SIGHUP, signal.SIGUSR1, signal.SIGUSR2)
 
 
-class AtOnce(Exception):
-    """A second signal to end came, and what is under way is left."""
+class AtOnce(BaseException):
+    """A second signal to end came, and what is under way is left: nobody takes this for something that went wrong there."""
 
 
 class Signals:
@@ -55,7 +55,7 @@ class Signals:
             host.log.info(f"{name}: {host.live.standby[0]} gets the guest first, within {host.settings.drain_ms * 1000:.0f} ms; this host "
                           "ends at once by a second signal")
             host.task = Drain(host, host.settings.drain_ms, True, False, self.is_over, now)
-            host.task.turn(now)
+            host.turn_task(now)
         else:
             host.end()
 

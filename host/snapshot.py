@@ -1,33 +1,70 @@
-"""`promote --from FILE`: a snapshot is the text of a full checkpoint; a standby that takes it and goes live is its guest. `promote --boot
---disk FILE`: the configured guest is booted over a snapshot's disk, as a machine that was switched off and on."""
+"""A snapshot is the text of a full checkpoint, behind a line with its length and its sum, by which a damaged one is known. `promote --from
+FILE`: a standby that takes it and goes live is its guest. `promote --boot --disk FILE`: the configured guest is booted over its disk, as a
+machine that was switched off and on."""
+import hashlib
+import os
 import secrets
 import struct
-from pathlib import Path
+from collections.abc import Iterable
+from typing import Any, BinaryIO
 
+from host.boot import MOST_PAGES, MOST_SECTORS, boot_of
+from host.files import reading
 from host.live import Live
-from host.node import PIECE, Node, Refused, piece, text_from
-from host.settings import boot_line
-from host.text import SECTOR, count_at, sectors_at
+from host.node import PIECE, Node, NodeEnded, Refused, piece, text_from
+from host.settings import Settings
+from host.text import COUNT, MOST_PAGE, RECORDS_AT, SECTOR, count_at, sectors_at
 
 HEAD = struct.Struct("<4sIIQQ")  # magic, pages, sectors, generation, number
+MAGIC, VERSION = b"remus snapshot ", b"1, "
+MOST_TEXT = RECORDS_AT + MOST_PAGES * MOST_PAGE + 3 * COUNT.size + MOST_SECTORS * (COUNT.size + SECTOR)  # bytes
+Shape = tuple[int, int, int]  # pages, sectors, generation
 
 
 class NotASnapshot(Exception):
-    """The file isn't the text of a full checkpoint."""
+    """The file isn't a snapshot, or a damaged one."""
 
 
-def load(host, path):
+class NoBoot(Exception):
+    """The node that was to boot the guest for its text ended."""
+
+
+class Header:
+    """The line before a text, as its bytes come."""
+
+    def __init__(self) -> None:
+        self.count, self.sum = 0, hashlib.sha256()
+
+    def take(self, data: bytes) -> None:
+        self.count += len(data)
+        self.sum.update(data)
+
+    def spelled(self) -> bytes:
+        return MAGIC + VERSION + b"%012d bytes, sha256 %s\n" % (self.count, self.sum.hexdigest().encode())
+
+    @classmethod
+    def room(cls) -> bytes:
+        """As many bytes as it takes, for as long as it isn't known."""
+        return bytes(len(cls().spelled()))
+
+
+def load(host: Any, path: str, is_bare: bool) -> None:
     """Makes the guest of a snapshot live. Where it can't, the host is empty. Raises OSError, Refused, NotASnapshot."""
-    with open(path, "rb") as file:
+    with reading(path) as file:
+        find_text(file, is_bare)
+        begin = file.tell()
         head = head_of(file.read(HEAD.size))
-        file.seek(0)
+        file.seek(begin)
         take(host, head, iter(lambda: file.read(PIECE), b""), f"from {path}")
     host.log.info(f"live with the guest of {path}, in generation {host.generation}: life {host.life}")
 
 
-def boot_over(host, path):
-    """Boots the configured guest over the disk of a snapshot. Where it can't, the host is empty. Raises OSError, Refused, NotASnapshot."""
-    disk = Path(path).read_bytes()
+def boot_over(host: Any, path: str, is_bare: bool) -> None:
+    """Boots the configured guest over the disk of a snapshot. Where it can't, the host is empty. Raises OSError, Refused, NotASnapshot,
+    BadGuest, NoBoot."""
+    with reading(path) as file:
+        find_text(file, is_bare)
+        disk = file.read()
     sectors, records = head_of(disk[:HEAD.size])[1], sectors_of(disk)
     text = booted(host.settings)
     head = head_of(text[:HEAD.size])
@@ -38,7 +75,42 @@ def boot_over(host, path):
     host.log.info(f"booted {host.settings.guest} over the disk of {path}: life {host.life}")
 
 
-def head_of(data):
+def check_replaced(path: str) -> None:
+    """A snapshot replaces a snapshot, or an empty file, and no other one. Raises OSError."""
+    try:
+        with reading(path) as file:
+            begins = file.read(len(MAGIC))
+    except FileNotFoundError:
+        return
+    if begins and begins != MAGIC:
+        raise OSError(None, "what stands there isn't a snapshot, and isn't replaced")
+
+
+def find_text(file: BinaryIO, is_bare: bool) -> None:
+    """Reads on to where the text begins, once it is known to be what was saved. Raises NotASnapshot."""
+    line = file.read(len(Header.room()))
+    begin = len(line) if line.startswith(MAGIC) else 0
+    count = os.fstat(file.fileno()).st_size - begin
+    if count > MOST_TEXT:
+        raise NotASnapshot(f"it has {count} bytes, which is more than any guest's")
+    if begin:
+        check_sum(file, line, count)
+    elif not is_bare:
+        raise NotASnapshot("it doesn't begin as what 'save' writes: 'bare' takes the text of a full checkpoint without a sum")
+    file.seek(begin)
+
+
+def check_sum(file: BinaryIO, line: bytes, count: int) -> None:
+    if not line.startswith(MAGIC + VERSION):
+        raise NotASnapshot("it is a snapshot of another version")
+    header = Header()
+    for data in iter(lambda: file.read(PIECE), b""):
+        header.take(data)
+    if header.spelled() != line:
+        raise NotASnapshot(f"it is damaged: its {count} bytes aren't those of which it has the length and the sum")
+
+
+def head_of(data: bytes) -> Shape:
     """The pages, the sectors and the generation of a full checkpoint."""
     if len(data) < HEAD.size:
         raise NotASnapshot("it is shorter than a checkpoint's head")
@@ -48,7 +120,7 @@ def head_of(data):
     return pages, sectors, generation
 
 
-def sectors_of(text):
+def sectors_of(text: bytes) -> bytes:
     """The sector records of a text, their count before them."""
     try:
         begin = sectors_at(text)
@@ -60,22 +132,27 @@ def sectors_of(text):
     return text[begin:end]
 
 
-def booted(settings):
-    """The text of a full checkpoint of the configured guest as it is at boot, from a node that is then ended. Raises Refused."""
-    node = Node(settings.node)
+def booted(settings: Settings) -> bytes:
+    """The text of a full checkpoint of the configured guest as it is at boot, from a node that is then ended. Raises Refused, BadGuest,
+    NoBoot."""
+    boot = boot_of(settings.guest)
     try:
-        node.ask(boot_line(settings.guest))
-        node.ask("protect")
-        text, is_whole = bytearray(), False
-        while not is_whole:
-            more, is_whole = text_from(node, 0, len(text))
-            text += more
-        return bytes(text)
-    finally:
-        node.close()
+        node = Node(settings.node)
+        try:
+            node.ask(boot.line)
+            node.ask("protect")
+            text, is_whole = bytearray(), False
+            while not is_whole:
+                more, is_whole = text_from(node, 0, len(text))
+                text += more
+            return bytes(text)
+        finally:
+            node.close()
+    except NodeEnded as ended:
+        raise NoBoot(f"the node that boots the guest for this ended: {ended}") from None
 
 
-def take(host, head, data, how):
+def take(host: Any, head: Shape, data: Iterable[bytes], how: str) -> None:
     """A new life, that of the guest of a full checkpoint's text."""
     pages, sectors, generation = head
     try:
@@ -94,7 +171,7 @@ def take(host, head, data, how):
     host.start(Live(host, answer.number(1), answer.number(3), host.link.now()))
 
 
-def feed(node, data):
+def feed(node: Node, data: Iterable[bytes]) -> None:
     is_whole = False
     for one in data:
         if is_whole:

@@ -1,117 +1,176 @@
 """What takes more than a turn of the loop: a drain, and a snapshot. One may be under way at a time."""
-import os
-from pathlib import Path
+from collections.abc import Callable
+from typing import Any
 
+from host.files import WholeFile
 from host.live import MOST_PENDING
 from host.meeting import go_live
+from host.node import Refused
+from host.snapshot import Header, check_replaced
+
+Answer = dict[str, Any]
+Tell = Callable[[Answer], None]
 
 
 class Drain:
-    """The guest stops, its last checkpoint is cut and acknowledged, and this host becomes empty. Where it isn't acknowledged in time, the
-    guest goes on, or is frozen if the host was to be demoted. `answer` gets what is to be answered."""
+    """The guest stops, and its last checkpoint is cut and acknowledged; then this host becomes empty. Where the standby is to go live, the
+    guest is given up only once it has said that it is. Where it isn't acknowledged in time, or the standby refuses, the guest goes on, or
+    is frozen if the host was to be demoted. A standby that was told and hasn't answered may be live: then the guest stays frozen, since
+    nobody here knows. `answer` gets what is to be answered."""
 
-    def __init__(self, host, within, promotes, is_demotion, answer, now):
+    def __init__(self, host: Any, within: float, promotes: bool, is_demotion: bool, answer: Tell, now: float) -> None:
         self.host, self.live, self.answer = host, host.live, answer
         self.end, self.promotes, self.is_demotion = now + within, promotes, is_demotion
         self.name = "a demotion is under way" if is_demotion else "a drain is under way"
-        self.last, self.begun = None, now
+        self.last: int | None = None  # the last checkpoint's number
+        self.is_told, self.told_over = False, None  # whether the standby was told to go live, and over which connection
         self.live.run(now)
-        self.live.is_stopped = True
+        self.live.stop(now)
 
-    def due(self, now):
+    def due(self, now: float) -> float:
         return self.end
 
-    def turn(self, now):
+    def turn(self, now: float) -> None:
         live = self.live
         if self.last is None and len(live.pending) < MOST_PENDING:
             before = live.cut
             live.was_cut(now, *live.tell(*live.cut_lines()))
             live.send(now)
             if live.cut == before:
-                return self.give_up(now)
+                return self.go_on("Node", "the node couldn't cut its last checkpoint", now)
             self.last = live.cut
         if self.last is not None and live.acked == self.last:
-            self.finish()
-        elif now >= self.end:
-            self.give_up(now)
-        return None
+            if not self.promotes:
+                return self.finish("the standby has all, and can be promoted")
+            self.tell_standby(now)
+        if now >= self.end:
+            self.run_out(now)
 
-    def finish(self):
+    def tell_standby(self, now: float) -> None:
+        """Tells it over each connection that it comes with: who dialled again has closed the one before."""
+        link = self.host.link
+        if self.live.is_linked and self.told_over is not link.connection:
+            if not self.is_told:
+                self.end = max(self.end, now + self.host.settings.link_ms)  # an answer takes no longer, where there is a link
+            self.is_told, self.told_over = True, link.connection
+            link.send(go_live(self.live.session, self.live.generation, self.last), now)
+
+    # What the standby answers.
+
+    def is_live(self) -> None:
+        self.finish("the standby has all, and is live")
+
+    def stays(self, why: str, now: float) -> None:
+        self.go_on("Declined", f"the standby refused to go live: {why}", now)
+
+    # How it ends.
+
+    def finish(self, said: str) -> None:
         host, live = self.host, self.live
-        host.node.kill()  # the guest is gone before anybody is told
-        if self.promotes:
-            host.link.send(go_live(live.session, live.generation, self.last), host.link.now())
         host.task = None
+        host.node.kill()  # the guest is gone before anybody is told
         host.give_up()
-        said = "the standby has all, and was told to go live" if self.promotes else "the standby has all, and can be promoted"
         self.answer(host.control.did(f"drained: {said}", handed_on=True))
         host.log.info(f"drained: checkpoint {self.last} of generation {live.generation} is acknowledged, and the guest doesn't run here")
         host.become_empty()
 
-    def give_up(self, now):
+    def run_out(self, now: float) -> None:
+        if self.is_told:
+            self.keep_frozen("Unanswered", "the standby was told to go live, and didn't answer whether it is")
+        else:
+            self.go_on("TimedOut", "the standby didn't acknowledge in time", now)
+
+    def go_on(self, name: str, why: str, now: float) -> None:
         host = self.host
         host.task = None
         if self.is_demotion:
             host.freeze()
-            self.answer(host.control.did("the guest is frozen, since its standby didn't acknowledge in time", handed_on=False))
+            self.answer(host.control.did(f"the guest is frozen: {why}", handed_on=False))
         else:
-            self.live.is_stopped = False
-            self.live.start_clock(now)
-            host.log.warning("the drain was given up: the standby didn't acknowledge in time")
-            self.answer(refusal("TimedOut", "the standby didn't acknowledge in time: the guest goes on here"))
+            self.live.go_on(now)
+            host.log.warning(f"the drain was given up: {why}")
+            self.answer(refusal(name, f"{why}: the guest goes on here"))
+
+    def keep_frozen(self, name: str, why: str) -> None:
+        host, other = self.host, self.live.standby[0] if self.live.standby else "the other host"
+        host.task = None
+        host.freeze()
+        told = (f"{why}: the guest is kept here and doesn't run. If {other} is live, this host becomes its standby by itself once the link "
+                "is back; if its status says standby and link down, promote it or this host")
+        host.log.error(told)
+        self.answer(refusal(name, told))
+
+    def fail(self, why: str) -> None:
+        """Something went wrong that nobody expected."""
+        if self.is_told:
+            self.keep_frozen("Internal", why)
+        else:
+            self.go_on("Internal", why, self.host.link.now())
 
 
 class Save:
-    """The text of a full checkpoint goes into a file, piece by piece while the guest goes on; then the guest is alone again. `text` is the
-    live host's pending checkpoint, whose length is known once all of it is fetched."""
+    """The text of a full checkpoint goes into a file, behind a header with its length and sum, piece by piece while the guest goes on; then
+    the guest is alone again. `text` is the live host's pending checkpoint, whose length is known once all of it is fetched."""
 
     name = "a snapshot is being saved"
 
-    def __init__(self, host, path, answer, now):
+    def __init__(self, host: Any, path: str, answer: Tell, now: float) -> None:
         """Raises OSError, and Refused."""
-        self.host, self.live, self.answer, self.path = host, host.live, answer, Path(path)
-        self.beside = self.path.with_name(f".{self.path.name}.{os.getpid()}")
-        self.file = open(self.beside, "wb")
+        self.host, self.live, self.answer, self.path = host, host.live, answer, path
+        check_replaced(path)
+        self.whole = WholeFile(path)
+        self.header, self.done = Header(), 0
         try:
+            self.whole.file.write(self.header.room())
             self.live.protect(now)
         except Exception:
-            self.discard()
+            self.whole.discard()
             raise
-        self.text, self.done = self.live.pending[0], 0
+        self.text = self.live.pending[0]
 
-    def due(self, now):
+    def due(self, now: float) -> float:
         return now
 
-    def turn(self, now):
+    def turn(self, now: float) -> None:
         end = now + self.live.epoch / 4
         try:
             while self.done < self.text.total and now < end:
-                self.done += self.file.write(self.live.fetched(0, self.done, now))
+                self.take(self.live.fetched(0, self.done, now))
                 now = self.host.link.now()
             if self.done >= self.text.total:
                 self.finish()
         except OSError as error:
-            self.discard()
-            self.over(refusal("File", f"{self.path} can't be written: {error.strerror}"))
+            self.give_up(refusal("File", f"{self.path} can't be written: {error.strerror}"))
+        except Refused as refused:
+            self.give_up(refusal("Node", f"the node refused: {refused}"))
 
-    def finish(self):
-        self.file.flush()
-        os.fsync(self.file.fileno())
-        self.file.close()
-        os.replace(self.beside, self.path)
-        self.host.log.info(f"saved {self.path}: {self.done} bytes")
-        self.over(None)
+    def take(self, data: bytes) -> None:
+        self.header.take(data)
+        self.done += self.whole.file.write(data)
 
-    def over(self, answer):
-        host = self.host
-        host.task = None
-        self.live.alone(host.link.now())
-        self.answer(answer or host.control.did(f"saved {self.done} bytes as {self.path}", bytes=self.done))
+    def finish(self) -> None:
+        self.whole.file.seek(0)
+        header = self.header.spelled()
+        self.whole.file.write(header)
+        self.whole.place()
+        count = len(header) + self.done
+        self.host.log.info(f"saved {self.path}: {count} bytes")
+        self.end()
+        self.answer(self.host.control.did(f"saved {count} bytes as {self.path}", bytes=count))
 
-    def discard(self):
-        self.file.close()
-        self.beside.unlink(missing_ok=True)
+    def end(self) -> None:
+        self.host.task = None
+        self.live.alone(self.host.link.now())
+
+    def give_up(self, answer: Answer) -> None:
+        self.whole.discard()
+        self.end()
+        self.answer(answer)
+
+    def fail(self, why: str) -> None:
+        """Something went wrong that nobody expected."""
+        self.give_up(refusal("Internal", why))
 
 
-def refusal(name, why):
+def refusal(name: str, why: str) -> Answer:
     return {"ok": False, "refused": name, "why": why}

@@ -1,59 +1,59 @@
 """What the control socket is asked to do: docs/OPERATE.md has the table of verbs, remus-host(8) the fields of a status."""
-import json
 import time
-from pathlib import Path
+from typing import Any
 
-from host import metrics
+from host import metrics, requests
+from host.boot import BadGuest
+from host.guarded import guarded
 from host.live import ALONE, PAIRED
 from host.node import Refused
-from host.snapshot import NotASnapshot, boot_over, load
-from host.tasks import Drain, Save, refusal
+from host.snapshot import NoBoot, NotASnapshot, boot_over, load
+from host.tasks import Answer, Drain, Save, Tell, refusal
 
-BOOL, TEXT, NUMBER = (bool,), (str,), (int, float)
-# By verb: the fields that a request may have beside `do`, and their types.
-REQUESTS = {
-    "status": {},
-    "promote": {"boot": BOOL, "new": BOOL, "from": TEXT, "disk": TEXT, "without_peer": BOOL},
-    "alone": {"standby": TEXT},
-    "drain": {"promote": BOOL, "within_ms": NUMBER},
-    "demote": {},
-    "save": {"file": TEXT},
-    "metrics": {},
-}
+
+class Once:
+    """Tells the first answer, and no other one."""
+
+    def __init__(self, tell: Tell) -> None:
+        self.tell: Tell | None = tell
+
+    def __call__(self, answer: Answer) -> None:
+        tell, self.tell = self.tell, None
+        if tell is not None:
+            tell(answer)
 
 
 class Verbs:
-    """`host` is the daemon."""
+    """`host` is the daemon. A verb answers what it did, or None where its task answers later."""
 
-    def __init__(self, host):
+    def __init__(self, host: Any) -> None:
         self.host = host
 
-    def do(self, line, answer):
-        """Does what a line asks for. `answer` is called with the answer, now or later."""
-        request = asked(line)
-        if isinstance(request, str):
-            return answer(refusal("Malformed", request))
-        verb = request.pop("do")
-        if verb not in REQUESTS:
-            return answer(refusal("Unknown", f"there is no verb {verb}"))
-        wrong = next((name for name, value in request.items() if not is_of(value, REQUESTS[verb].get(name))), None)
-        if wrong is not None:
-            return answer(refusal("Malformed", f"{verb} has no field {wrong} of that type"))
-        if self.host.task is not None and verb not in ("status", "metrics"):
-            return answer(refusal("Busy", self.host.task.name))
+    def do(self, line: bytes, answer: Tell) -> None:
+        """Does what a line asks for. `answer` is called with the answer, now or later, and once."""
+        tell = Once(answer)
         try:
-            done = getattr(self, verb)(answer, **{name.replace("from", "source"): value for name, value in request.items()})
-        except Refused as refused:
-            done = refusal("Node", f"the node refused: {refused}")
+            verb, given = requests.read(line)
+        except requests.Wrong as wrong:
+            return tell(refusal(wrong.name, str(wrong)))
+        if self.host.task is not None and verb not in ("status", "metrics"):
+            return tell(refusal("Busy", self.host.task.name))
+        done = guarded(self.host.log, f"the request to {verb}", lambda: self.done(verb, tell, given), lambda why: refusal("Internal", why))
         if done is not None:
-            answer(done)
+            tell(done)
 
-    def did(self, sentence, **more):
+    def done(self, verb: str, tell: Tell, given: dict[str, Any]) -> Answer | None:
+        try:
+            return getattr(self, verb)(tell, **given)
+        except Refused as refused:
+            return refusal("Node", f"the node refused: {refused}")
+
+    def did(self, sentence: str, **more: object) -> Answer:
         host = self.host
         return {"ok": True, "did": sentence, "role": host.role, "mode": self.mode(), "life": host.life,
                 "generation": host.generation} | more
 
-    def lives(self, sentence: str) -> dict:
+    def lives(self, sentence: str) -> Answer:
         """What was done, and what is wrong with the network of a host that is live by it."""
         wrong = self.host.network.wrong
         return self.did(sentence if wrong is None else f"{sentence}, but the guest's network doesn't carry: {wrong}")
@@ -63,20 +63,19 @@ class Verbs:
 
     # Verbs.
 
-    def status(self, answer):
+    def status(self, answer: Tell) -> Answer:
         return self.did("told") | status(self.host)
 
-    def metrics(self, answer):
+    def metrics(self, answer: Tell) -> Answer:
         return {"ok": True, "text": metrics.text(self.host)}
 
-    def promote(self, answer, boot=False, new=False, source=None, disk=None, without_peer=False):
+    def promote(self, answer: Tell, boot: bool = False, new: bool = False, source: str | None = None, disk: str | None = None,
+                bare: bool = False, without_peer: bool = False) -> Answer:
         host, now = self.host, time.monotonic()
-        if source is not None and boot or not boot and (new or disk is not None):
-            return refusal("Malformed", "promote takes boot, with new and disk or without them, or from, or nothing")
         if host.role == "live" and not (source or disk or new):
             return self.lives("this host is live already")
         if boot or source is not None:
-            return self.begin(new, source, disk)
+            return self.begin(new, source, disk, bare)
         if host.role == "frozen":
             host.thaw(now)
         elif not host.full:
@@ -88,7 +87,7 @@ class Verbs:
             host.go_live(now)
         return self.lives("this host is live")
 
-    def begin(self, new, source, disk):
+    def begin(self, new: bool, source: str | None, disk: str | None, bare: bool) -> Answer:
         """A new life, booted, over a snapshot's disk where one is given, or from a snapshot."""
         host = self.host
         if host.role != "empty":
@@ -98,22 +97,28 @@ class Verbs:
         if source is None and host.state.booted_before and not new:
             return refusal("BootedBefore", "a guest was booted or held here before; 'new' boots another one all the same")
         try:
-            return self.lives(self.begun(source, disk))
-        except (OSError, NotASnapshot) as error:
-            return refusal("File", f"{source or disk or host.settings.state}: {getattr(error, 'strerror', None) or error}")
+            return self.lives(self.begun(source, disk, bare))
+        except BadGuest as bad:
+            return refusal("File", str(bad))
+        except NoBoot as ended:
+            return refusal("Node", str(ended))
+        except NotASnapshot as error:
+            return refusal("File", f"{source or disk}: {error}")
+        except OSError as error:
+            return refusal("File", f"{error.filename or source or disk or host.settings.state}: {error.strerror or error}")
 
-    def begun(self, source, disk):
-        """What was done, as a sentence. Raises OSError, Refused, NotASnapshot."""
+    def begun(self, source: str | None, disk: str | None, bare: bool) -> str:
+        """What was done, as a sentence. Raises OSError, Refused, NotASnapshot, BadGuest, NoBoot."""
         if source is not None:
-            load(self.host, source)
+            load(self.host, source, bare)
             return f"this host is live with the guest of {source}"
         if disk is not None:
-            boot_over(self.host, disk)
+            boot_over(self.host, disk, bare)
             return f"the guest is booted over the disk of {disk}, and this host is live"
         self.host.boot()
         return "the guest is booted, and this host is live"
 
-    def alone(self, answer, standby=None):
+    def alone(self, answer: Tell, standby: str | None = None) -> Answer:
         host = self.host
         if host.live is None:
             return refusal("NotLive", f"this host is {host.role}")
@@ -127,32 +132,30 @@ class Verbs:
         host.log.info(f"alone in generation {host.generation}, as it was told")
         return self.did("this host goes on alone")
 
-    def drain(self, answer, promote=False, within_ms=None):
+    def drain(self, answer: Tell, promote: bool = False, within: float | None = None) -> Answer | None:
         host = self.host
         if host.role != "live":
             return refusal("NotLive", f"this host is {host.role}")
         if host.live.mode != PAIRED:
             return refusal("NotPaired", "no standby has a full checkpoint of the guest")
-        within = host.settings.drain_ms if within_ms is None else within_ms / 1000
-        host.task = Drain(host, within, promote, False, answer, time.monotonic())
-        host.task.turn(time.monotonic())
-        return None
+        return self.begin_drain(host.settings.drain_ms if within is None else within, promote, False, answer)
 
-    def demote(self, answer):
+    def demote(self, answer: Tell) -> Answer | None:
         host = self.host
         if host.role != "live":
             return self.did(f"this host is {host.role}, and stays it", handed_on=False)
         if host.live.mode != PAIRED or not host.live.is_linked:
             host.freeze()
             return self.did("the guest is frozen, since nobody is there to hand it to", handed_on=False)
-        host.task = Drain(host, host.settings.drain_ms, False, True, answer, time.monotonic())
-        host.task.turn(time.monotonic())
-        return None
+        return self.begin_drain(host.settings.drain_ms, False, True, answer)
 
-    def save(self, answer, file=None):
+    def begin_drain(self, within: float, promotes: bool, is_demotion: bool, answer: Tell) -> None:
+        now = time.monotonic()
+        self.host.task = Drain(self.host, within, promotes, is_demotion, answer, now)
+        self.host.turn_task(now)
+
+    def save(self, answer: Tell, file: str) -> Answer | None:
         host = self.host
-        if file is None or not Path(file).is_absolute():
-            return refusal("Malformed", "save takes the field file, a whole path")
         if host.live is None:
             return refusal("NotLive", f"this host is {host.role}")
         if host.live.mode != ALONE:
@@ -162,23 +165,6 @@ class Verbs:
         except OSError as error:
             return refusal("File", f"{file} can't be written: {error.strerror}")
         return None
-
-
-def asked(line):
-    """The request of a line, or a sentence that says what is wrong with it."""
-    try:
-        request = json.loads(line)
-    except (ValueError, RecursionError):
-        return "the line isn't JSON"
-    if not isinstance(request, dict):
-        return "the line isn't one JSON object"
-    if not isinstance(request.get("do"), str):
-        return "the object has no text 'do'"
-    return request
-
-
-def is_of(value, types):
-    return types is not None and isinstance(value, types) and (types is BOOL or not isinstance(value, bool))
 
 
 def status(host):

@@ -10,6 +10,7 @@ ROOT = Path(__file__).resolve().parents[1]
 sys.path.insert(0, str(ROOT))
 from guests.lib.frames import UDP, client_mac, datagram, payload
 from host import keys
+from host.settings import INSECURE
 from host.started import Host, Hub, free_ports, protected
 
 PROGRAM = os.environ.get("REMUS") or str(ROOT / "remus")
@@ -27,7 +28,7 @@ def loopback_pair(folder, guest, plain=False, through=None, **settings):
             keys.make(folder, name)
     made = []
     for place, (name, other) in enumerate(("ab", "ba")):
-        with_keys = {"plain": True} if plain else {"key": str(folder / f"{name}.key"), "certificate": str(folder / f"{name}.crt"),
+        with_keys = {"plain": INSECURE} if plain else {"key": str(folder / f"{name}.key"), "certificate": str(folder / f"{name}.crt"),
                                                    "peer_certificate": str(folder / f"{other}.crt")}
         dialled = through[place] if through else ports[1 - place]
         made.append(Host(folder, name, node=NODE, guest=str(guest), listen=f"127.0.0.1:{ports[place]}", peer=f"127.0.0.1:{dialled}",

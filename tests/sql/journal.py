@@ -63,9 +63,14 @@ class Trial:
             raise OSError(f"it isn't saved: {answer}")
 
 
+def text_of(snapshot: Path) -> bytes:
+    """The text behind a snapshot's line."""
+    return snapshot.read_bytes().partition(b"\n")[2]
+
+
 def disk_of(snapshot: Path) -> bytes:
     """The sectors of a snapshot's disk up to the log's."""
-    [checkpoint], ending = read_stream(snapshot.read_bytes(), PAGES, SECTORS)
+    [checkpoint], ending = read_stream(text_of(snapshot), PAGES, SECTORS)
     if ending is not None:
         raise OSError(f"{snapshot} isn't a checkpoint: {ending!r}")
     return b"".join(checkpoint.sector_records.get(number, bytes(SECTOR)) for number in range(LOG))
@@ -73,9 +78,9 @@ def disk_of(snapshot: Path) -> bytes:
 
 def is_listed(snapshot: Path) -> bool:
     """Whether check-stream reads it as one full checkpoint."""
-    words = [PROGRAM, "check-stream", str(snapshot), "--pages", str(PAGES), "--sectors", str(SECTORS)]
-    ran = subprocess.run(words, capture_output=True, text=True)
-    return ran.returncode == 0 and re.fullmatch(r"full \d+ 0 pages \d+ sectors \d+ frames 0\n", ran.stdout) is not None
+    words = [PROGRAM, "check-stream", "/dev/stdin", "--pages", str(PAGES), "--sectors", str(SECTORS)]
+    ran = subprocess.run(words, input=text_of(snapshot), capture_output=True)
+    return ran.returncode == 0 and re.fullmatch(rb"full \d+ 0 pages \d+ sectors \d+ frames 0\n", ran.stdout) is not None
 
 
 def rows_of(file: Path) -> object:
