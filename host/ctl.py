@@ -1,12 +1,16 @@
 """`remus-host ctl`: asks a daemon over its control socket."""
+import argparse
 import json
 import os
 import socket
-import sys
+from typing import Any
 
 from host import managed, settings
+from host.out import complain, failed, put
 
-DONE, REFUSED, BAD, NO_ANSWER = range(4)
+DONE, REFUSED, BAD, NO_ANSWER, UNWRITTEN = range(5)
+MOST_ANSWER = 1 << 24  # bytes
+MOST_SECONDS = 86400.0
 VERBS = {
     "status": "says what this host is",
     "promote": "makes this host live",
@@ -26,32 +30,58 @@ class NoAnswer(Exception):
     """No daemon listens there, or none answered in time."""
 
 
-def add(kinds):
+def add(kinds: Any) -> None:
     """The command line of ctl."""
     one = kinds.add_parser("ctl", help="asks a daemon that runs")
-    one.add_argument("--control", metavar="PATH", help="its control socket")
-    one.add_argument("--config", metavar="FILE", help="its configuration, which names the socket")
-    one.add_argument("--json", action="store_true", help="prints the answer as it came")
-    one.add_argument("--timeout", type=float, metavar="SECONDS",
-                     help="how long an answer is awaited (default: 10, for drain and demote 60, for save 600)")
+    add_shared(one, None)
     verbs = one.add_subparsers(dest="verb", required=True, metavar="VERB")
     readers = {verb: verbs.add_parser(verb, help=said, description=said) for verb, said in VERBS.items()}
+    for each in readers.values():
+        add_shared(each, argparse.SUPPRESS)
     readers["promote"].add_argument("--boot", action="store_true", help="boots the configured guest at an empty host")
     readers["promote"].add_argument("--new", action="store_true", help="even where a guest was booted before")
     readers["promote"].add_argument("--from", dest="source", metavar="FILE", help="takes the guest of a snapshot")
     readers["promote"].add_argument("--disk", metavar="FILE", help="with --boot: boots over the disk of a snapshot")
     readers["promote"].add_argument("--without-peer", action="store_true",
                                     help="a standby from its log goes live though the peer wasn't heard: it is lost for good")
+    readers["promote"].add_argument("--bare", action="store_true",
+                                    help="with --from or --disk: takes also the text of a full checkpoint alone, which has no sum")
     readers["alone"].add_argument("--standby", metavar="INSTANCE", help="only if this is the standby")
     readers["drain"].add_argument("--promote", action="store_true", help="tells the standby to go live then")
-    readers["drain"].add_argument("--within", type=float, metavar="MS", help="the longest that it may take")
+    readers["drain"].add_argument("--within", type=milliseconds, metavar="MS", help="the longest that it may take")
     readers["save"].add_argument("file", metavar="FILE")
 
 
-def request_of(plan):
+def add_shared(one: argparse.ArgumentParser, unless_given: object) -> None:
+    """The options that stand before the verb or behind it."""
+    one.add_argument("--control", default=unless_given, metavar="PATH", help="its control socket")
+    one.add_argument("--config", default=unless_given, metavar="FILE", help="its configuration, which names the socket")
+    one.add_argument("--json", action="store_true", default=unless_given, help="prints the answer as it came")
+    one.add_argument("--timeout", type=seconds, default=unless_given, metavar="SECONDS",
+                     help="how long an answer is awaited (default: 10, for drain and demote 60, for save 600)")
+
+
+def seconds(word: str) -> float:
+    try:
+        found = float(word)
+    except ValueError:
+        found = 0.0
+    if not 0 < found <= MOST_SECONDS:
+        raise argparse.ArgumentTypeError(f"must be seconds, above 0 and up to {MOST_SECONDS:g}")
+    return found
+
+
+def milliseconds(word: str) -> float:
+    try:
+        return settings.DRAIN_MS(word) * 1000
+    except settings.Mistake as mistake:
+        raise argparse.ArgumentTypeError(str(mistake)) from None
+
+
+def request_of(plan: argparse.Namespace) -> dict[str, Any]:
     request = {"do": plan.verb}
     if plan.verb == "promote":
-        request |= {name: True for name in ("boot", "new", "without_peer") if getattr(plan, name)}
+        request |= {name: True for name in ("boot", "new", "bare", "without_peer") if getattr(plan, name)}
         request |= {name: os.path.abspath(path) for name, path in (("from", plan.source), ("disk", plan.disk)) if path}
     elif plan.verb == "alone" and plan.standby:
         request["standby"] = plan.standby
@@ -62,71 +92,91 @@ def request_of(plan):
     return request
 
 
-def ask(path, request, timeout=10.0):
+def ask(path: str, request: dict[str, Any], timeout: float = 10.0) -> dict[str, Any]:
     """The answer to a request. Raises NoAnswer."""
-    with socket.socket(socket.AF_UNIX) as line:
-        line.settimeout(timeout)
-        try:
+    try:
+        with socket.socket(socket.AF_UNIX) as line:
+            line.settimeout(timeout)
             line.connect(path)
             line.sendall(json.dumps(request).encode() + b"\n")
             with line.makefile("rb") as answers:
-                answer = answers.readline()
-        except TimeoutError:
-            raise NoAnswer(f"no answer at {path} within {timeout:g} s") from None
-        except OSError as error:
-            raise NoAnswer(f"no daemon listens at {path}: {error.strerror or error}") from None
+                answer = answers.readline(MOST_ANSWER)
+    except TimeoutError:
+        raise NoAnswer(f"no answer at {path} within {timeout:g} s") from None
+    except PermissionError:
+        raise NoAnswer(f"no permission to ask at {path}: root may, and the daemon's user") from None
+    except OSError as error:
+        raise NoAnswer(f"no daemon listens at {path}: {error.strerror or error}") from None
     if not answer.endswith(b"\n"):
         raise NoAnswer(f"the daemon at {path} ended before it answered")
-    return json.loads(answer)
+    return read(answer, path)
 
 
-def control_of(plan):
-    if plan.control:
+def read(line: bytes, path: str) -> dict[str, Any]:
+    """An answer, as a daemon spells it. Raises NoAnswer."""
+    try:
+        answer = json.loads(line)
+    except (ValueError, RecursionError):
+        answer = None
+    is_answer = isinstance(answer, dict) and isinstance(answer.get("ok"), bool)
+    if not is_answer or not answer["ok"] and not {"refused", "why"} <= answer.keys():
+        raise NoAnswer(f"what listens at {path} doesn't answer as remus-host does")
+    return answer
+
+
+def control_of(plan: argparse.Namespace) -> str:
+    """The control socket's path. Raises Mistakes."""
+    if plan.control is not None:
         return plan.control
-    if plan.config:
-        try:
-            return settings.from_file(plan.config).get("control", (settings.Settings.control,))[0]
-        except settings.Mistakes as mistakes:
-            print(mistakes, file=sys.stderr)
-            sys.exit(BAD)
-    return settings.Settings.control
+    if plan.config is None:
+        return settings.Settings.control
+    value, place = settings.from_file(plan.config).get("control", (settings.Settings.control, ""))
+    try:
+        return settings.KEYS["control"][0](value)
+    except settings.Mistake as mistake:
+        raise settings.Mistakes(f"{place}: control {mistake}") from None
 
 
-def run(plan):
-    timeout = plan.timeout or PATIENCE.get(plan.verb, 10.0)
+def run(plan: argparse.Namespace) -> int:
+    timeout = PATIENCE.get(plan.verb, 10.0) if plan.timeout is None else plan.timeout
     try:
         answer = ask(control_of(plan), request_of(plan), timeout)
+    except settings.Mistakes as mistakes:
+        complain(str(mistakes))
+        return BAD
     except NoAnswer as error:
-        print(f"remus-host: {error}", file=sys.stderr)
-        return NO_ANSWER
+        return failed(str(error), NO_ANSWER)
+    except KeyboardInterrupt:
+        return failed("interrupted before an answer came: what was asked may be done all the same", NO_ANSWER)
+    if not plan.json and not answer["ok"]:
+        complain(f"refused, {answer['refused']}: {answer['why']}")
+        return REFUSED
     try:
-        said(plan, answer)
-    except BrokenPipeError:
-        os.dup2(os.open(os.devnull, os.O_WRONLY), sys.stdout.fileno())
+        put(json.dumps(answer) + "\n" if plan.json else said(plan.verb, answer))
+    except (OSError, KeyboardInterrupt) as error:
+        return failed(f"it is {'done' if answer['ok'] else 'refused'}, and the answer can't be written: "
+                      f"{getattr(error, 'strerror', None) or 'interrupted'}", UNWRITTEN)
     if answer["ok"] and (warning := managed.warning(plan.verb)):
-        print(f"remus-host: {warning}", file=sys.stderr)
+        complain(f"remus-host: {warning}")
     return DONE if answer["ok"] else REFUSED
 
 
-def said(plan, answer):
-    if plan.json:
-        print(json.dumps(answer))
-    elif not answer["ok"]:
-        print(f"refused, {answer['refused']}: {answer['why']}", file=sys.stderr)
-    elif plan.verb == "metrics":
-        print(answer["text"], end="")
-    elif plan.verb == "status":
-        for name, value in answer.items():
-            if name in PARTS and value is not None:
-                for part, of_it in value.items():
-                    print(f"{name} {part}: {shown(of_it)}")
-            elif name not in ("ok", "did"):
-                print(f"{name}: {shown(value)}")
-    else:
-        print(answer["did"])
+def said(verb: str, answer: dict[str, Any]) -> str:
+    """An answer that is ok, for a reader."""
+    if verb == "metrics":
+        return answer.get("text", "")
+    if verb != "status":
+        return answer.get("did", "done") + "\n"
+    lines = []
+    for name, value in answer.items():
+        if name in PARTS and value is not None:
+            lines += [f"{name} {part}: {shown(of_it)}" for part, of_it in value.items()]
+        elif name not in ("ok", "did"):
+            lines.append(f"{name}: {shown(value)}")
+    return "".join(line + "\n" for line in lines)
 
 
-def shown(value):
+def shown(value: object) -> object:
     if value is None:
         return "-"
     return {True: "yes", False: "no"}[value] if isinstance(value, bool) else value

@@ -9,6 +9,7 @@ from host.log import command as log_command
 from host.logs import Log
 from host.network import Unusable
 from host.node import NodeEnded
+from host.out import complain, failed, give_up, put
 
 TEXT = """The daemon of one host of a pair.
 
@@ -45,12 +46,15 @@ def reader():
 
 def make_keys(plan: argparse.Namespace) -> int:
     try:
-        if not plan.name.isprintable() or "/" in plan.name or not 0 < len(plan.name.encode()) <= 64:
-            sys.exit(f"remus-host: {plan.name} can't be a name: at most 64 bytes that can be printed, without /")
-        print(KEYS[plan.how](plan.folder, plan.name))
+        name = plan.name.encode()
+    except UnicodeEncodeError:
+        name = b""
+    if not plan.name.isprintable() or "/" in plan.name or not 0 < len(name) <= 64:
+        return failed(f"{plan.name!r} can't be a name: at most 64 bytes that can be printed, without /", 1)
+    try:
+        put(KEYS[plan.how](plan.folder, plan.name) + "\n")
     except OSError as error:
-        print(f"remus-host: {error.filename}: {error.strerror}", file=sys.stderr)
-        return 1
+        return failed(f"{error.filename or 'standard output'}: {error.strerror}", 1)
     return 0
 
 
@@ -73,12 +77,15 @@ def switched(folder: str, name: str) -> str:
 KEYS = {"make": made, "renew": renewed, "switch": switched}
 
 
-def configured(plan):
+def configured(plan: argparse.Namespace) -> settings.Settings:
+    """The settings; ends the program where they are wrong."""
     options = {key: getattr(plan, key) for key in settings.KEYS if hasattr(plan, key)}
+    if plan.config is None and "network" not in options:
+        sys.exit(failed("no configuration is given: name one by --config FILE, or give the settings as options, --network among them", 2))
     try:
         return settings.read(plan.config, options)
     except settings.Mistakes as mistakes:
-        print(mistakes, file=sys.stderr)
+        complain(str(mistakes))
         sys.exit(2)
 
 
@@ -121,8 +128,8 @@ def run_daemon(found: settings.Settings, log: Log) -> int:
     return 0
 
 
-def main(words=None):
-    plan = reader().parse_args(words)
+def main(words: list[str] | None = None) -> int:
+    plan = planned(words)
     if plan.command == "keys":
         return make_keys(plan)
     if plan.command == "check":
@@ -131,3 +138,17 @@ def main(words=None):
     if plan.command == "log":
         return log_command.run(plan)
     return ctl.run(plan) if plan.command == "ctl" else run(plan)
+
+
+def planned(words: list[str] | None) -> argparse.Namespace:
+    """What the command line says; ends the program where that is done by a help, or is wrong."""
+    try:
+        return reader().parse_args(words)
+    except SystemExit:
+        try:
+            if sys.stdout is not None:
+                sys.stdout.flush()
+        except OSError as error:
+            give_up(sys.stdout)
+            sys.exit(failed(f"standard output: {error.strerror}", 1))
+        raise
