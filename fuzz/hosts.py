@@ -56,7 +56,7 @@ def any_message(rng, session):
     """One of each kind, with what its body may be, of that session or another."""
     session = rng.choice([bytes(16), session, session, rng.randbytes(16)])
     number = lambda: rng.choice([0, 1, 2, rng.randrange(1000), 2**62 - 1, 2**62, 2**64 - 1])
-    kind = rng.randrange(1, 12)
+    kind = rng.randrange(1, 14)
     if kind == messages.HELLO:
         hello = HELLO | {"session": rng.choice([None, session.hex(), "x"]), "full": rng.random() < 0.5, "generation": rng.randrange(9),
                          "life": rng.choice([None, "z"]), "role": rng.choice(["empty", "standby", "frozen", "live", "x"])}
@@ -66,9 +66,11 @@ def any_message(rng, session):
     if kind == messages.TEXT:
         return messages.text(session, number() % 2**64, number() % 2**64, number() % 2**64, number() % 2**64,
                              rng.randbytes(rng.randrange(600)))
-    if kind in (messages.ACK, messages.GO_LIVE):
+    if kind == messages.STAYS:
+        return messages.told(kind, session, why=rng.choice(["x", None, "x" * 300]))
+    if kind in (messages.ACK, messages.GO_LIVE, messages.LIVE):
         return messages.message(kind, session, messages.NUMBER.pack(number() % 2**64, number() % 2**64))
-    if kind == 11:
+    if kind > messages.STAYS:
         return rng.randbytes(rng.randrange(1, 200))
     return messages.message(kind, session, rng.choice([b"", b"{}", b"[]", rng.randbytes(rng.randrange(60)), b"{" * 900]))
 
