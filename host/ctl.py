@@ -171,6 +171,8 @@ def said(verb: str, answer: dict[str, Any]) -> str:
     for name, value in answer.items():
         if name in PARTS and value is not None:
             lines += [f"{name} {part}: {shown(of_it)}" for part, of_it in value.items()]
+        elif name == "drift" and value is not None:
+            lines += [f"drift {key}: {shown(here)} here, {shown(there)} at the peer" for key, (here, there) in value.items()]
         elif name not in ("ok", "did"):
             lines.append(f"{name}: {shown(value)}")
     return "".join(line + "\n" for line in lines)

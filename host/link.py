@@ -264,6 +264,8 @@ class Link:
             self.log.seldom("session", "warning", "a message of another session was dropped")
         elif kind != messages.PING:
             self.attached(kind, body, now)
+        elif body:
+            self.meeting.compared(body)
 
     def hear(self, connection, reading, writing, now, pieces=1):
         """Hears the attached connection, over which so many pieces may have come, each by itself."""

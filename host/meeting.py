@@ -5,6 +5,7 @@ import secrets
 from host import messages
 from host.backoff import Backoff
 from host.connection import Closed
+from host.drift import Drift
 from host.live import ALONE, FILLING
 from host.log.kept import Unprepared
 from host.messages import GO_LIVE, HELLO, NO, NO_SESSION, OFFER, OVER, READY, RESUME, Malformed, fields
@@ -17,6 +18,7 @@ class Meeting:
     def __init__(self, host):
         self.host, self.link, self.log = host, host.link, host.log
         self.offered = {}  # by connection: the session's name, and who it was offered to
+        self.drift = Drift(host.settings, host.log)
         self.protecting, self.standing_by = Backoff(), Backoff()  # how long after a failure the next standby is taken; is asked for
         self.peer_role = None
 
@@ -151,6 +153,7 @@ class Meeting:
         connection.send(messages.told(RESUME, live.session, name=self.host.settings.name, instance=self.host.instance))
         self.link.attach(connection, live.session, now)
         self.log.info(f"the link to {hello['name']} is back")
+        self.compare(now)
         live.resume(hello["committed"], now)
 
     def behind(self, connection, hello):
@@ -179,12 +182,23 @@ class Meeting:
         self.link.attach(connection, session, now)
         self.log.info(f"{standby[0]} is the new standby: its full checkpoint of generation {live.generation} has at most "
                       f"{live.pending[0].total} bytes")
+        self.compare(now)
 
     def declined(self, connection, told):
         """The host that was offered an attachment can't be a standby."""
         del self.offered[connection]
         self.link.leave(connection)
         self.log.seldom("declined", "warning", f"{told['name']} can't be a standby: {told['why']}")
+
+    # Both sides, once they are joined.
+
+    def compare(self, now: float) -> None:
+        """Tells the peer what this host is configured with, and hears the same of it."""
+        self.link.send(self.drift.message(self.link.session), now)
+
+    def compared(self, body: bytes) -> None:
+        live = self.host.live
+        self.drift.told(body, (live.standby if live else self.host.peer)[0])
 
     # The side of a host that isn't live.
 
@@ -231,6 +245,7 @@ class Meeting:
         self.standing_by.worked()
         self.met(connection, session, offer, now)
         self.link.send(messages.message(READY, session), now)
+        self.compare(now)
 
     def decline(self, connection, session, why, now):
         """This host can't be a standby: it says so, and asks again later, before the live host has done anything for it."""
@@ -248,6 +263,7 @@ class Meeting:
         self.host.kept.attached()
         self.met(connection, self.host.session, told, now)
         self.log.info(f"the link to {told['name']} is back")
+        self.compare(now)
 
     def met(self, connection, session, told, now):
         self.peer_role, self.host.peer = "live", (told["name"], told["instance"])

@@ -11,7 +11,8 @@ before there is one), and its body:
     7 TEXT      who is live: generation, number, place, and length of the whole text (8 bytes each), and bytes of it. With the last bytes
                 the length is exact; of number 0 it may be more with those before, since it is known only once the end was fetched
     8 ACK       the standby: generation and number (8 bytes each) of the last commit
-    9 PING      both, where nothing else was said for a quarter of `link_ms`
+    9 PING      both, where nothing else was said for a quarter of `link_ms`. With a body, once both are joined: JSON, what the host is
+                configured with that has to be the same at both (host/drift.py)
     10 GO_LIVE  who was live, and has drained and stopped: generation and number of the last checkpoint
     11 LIVE     who was told so: it is live, from that checkpoint on. Only now the other gives the guest up
     12 STAYS    who was told so: JSON, why it isn't live. The other one's guest goes on

@@ -186,5 +186,5 @@ def status(host):
         "steps": live.steps if live else standby.steps() if standby else 0,
         "late_ms": round(live.late * 1000) if live else 0, "held": live.held if live else 0,
         "log": host.kept.status(), "dead": live.watch.found if live else None, "network_error": host.network.wrong,
-        "name": host.settings.name, "uptime_ms": since(host.begun), "version": host.version,
+        "drift": host.meeting.drift.found or None, "name": host.settings.name, "uptime_ms": since(host.begun), "version": host.version,
     }
