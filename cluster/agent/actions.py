@@ -7,7 +7,8 @@ import time
 from agent import parameters
 from agent.cluster import Cluster
 from agent.daemon import PATIENCE_SECONDS, Daemon, Silent
-from agent.life import SCORE_FIRST, SCORE_FULL, SCORE_LIVE, Life, alone_in, is_left_half_filled, may_boot, stale, stalls, why_not
+from agent.life import SCORE_FIRST, SCORE_FULL, SCORE_LIVE, SCORE_WAITS, Life, alone_in, is_left_half_filled, may_boot, stale, stalls
+from agent.life import why_not, wrong_at
 from agent.ocf import DEGRADED, GENERIC, INSTALLED, NOT_RUNNING, PROMOTED, SUCCESS, UNIMPLEMENTED, Failure, meta, run, warn
 
 TAKE_SECONDS = 5  # for a demotion before a stop
@@ -154,9 +155,9 @@ class Pair:
         try:
             lost = self.why_lost(status)
         except Failure as failure:
-            self.say_wrong([failure.reason])
+            self.say_wrong([failure.reason, *wrong_at(status)])
             return SUCCESS
-        self.say_wrong([lost] if lost else [])
+        self.say_wrong([*([lost] if lost else []), *wrong_at(status)])
         if lost:
             raise Failure(DEGRADED, lost)
         return SUCCESS
@@ -250,15 +251,10 @@ class Pair:
 
     def monitor_live(self, status: dict) -> int:
         self.refuse_stale(status)
-        self.cluster.publish(SCORE_LIVE)
         if self.goes_alone(status):
             status = self.running()
-        wrong = self.name_life(status)
-        if status["dead"]:
-            wrong.append(f"the guest can do nothing more: {status['dead']}")
-        if status.get("network_error"):
-            wrong.append(f"the guest's network doesn't carry: {status['network_error']}")
-        self.say_wrong(wrong)
+        self.cluster.publish(SCORE_WAITS if self.has_stalled(status) else SCORE_LIVE)
+        self.say_wrong([*self.name_life(status), *wrong_at(status)])
         self.watch_standby(status)
         self.watch_network(status)
         return SUCCESS if self.was_promoted_by_hand() else PROMOTED
@@ -266,7 +262,7 @@ class Pair:
     def was_promoted_by_hand(self) -> bool:
         """Whether Pacemaker takes this live host for a standby, and nobody else is live. Pacemaker would stop it if it were told so; by its
         score it promotes it."""
-        return meta("role") in AS_STANDBY and self.cluster.best_score_elsewhere() < SCORE_LIVE
+        return meta("role") in AS_STANDBY and self.cluster.best_score_elsewhere() <= SCORE_FULL
 
     def refuse_stale(self, status: dict) -> None:
         try:
@@ -396,12 +392,15 @@ class Pair:
             raise Failure(GENERIC, f"the guest doesn't go on alone. {unsafe}")
 
     def other_is_live(self) -> None:
-        """A guest that was stopped here, or a checkpoint of another guest, is of no use any more: this host has to begin anew."""
+        """A guest that was stopped here and has gone on there, or a checkpoint of another guest, is of no use any more: this host has to begin
+        anew. One that is alone with its guest, and by the property in the last generation, keeps it: then it is the other one that is stale."""
         status = self.status()
         if status is None or status["role"] not in ("frozen", "standby"):
             return
         life = self.cluster.life()
-        if status["role"] == "frozen" or (status["full"] and life is not None and life.name not in ("", status["life"])):
+        is_another = life is not None and life.name not in ("", status["life"])
+        has_gone_on = status["role"] == "frozen" and why_not(status, life) is not None
+        if has_gone_on or status["full"] and is_another:
             self.cluster.give_up(status["instance"])
 
     # Validate.

@@ -2,7 +2,9 @@
 from agent.ocf import GENERIC, Failure
 
 FILLING_SECONDS = 60  # a standby that hasn't taken the full checkpoint by then is given up
-SCORE_LIVE, SCORE_FULL, SCORE_FIRST = 200, 100, 5
+# A live host that hears nothing of its standby may be one that was cut off and fenced by that: where both come together again Pacemaker has
+# two promoted hosts, and keeps the one with the higher score.
+SCORE_LIVE, SCORE_WAITS, SCORE_FULL, SCORE_FIRST = 200, 150, 100, 5
 
 
 class Life:
@@ -76,3 +78,15 @@ def stalls(status: dict, seconds: float) -> bool:
 def is_left_half_filled(status: dict) -> bool:
     """Whether it is a standby without a full checkpoint, whose live host is gone: nothing can become of it."""
     return status["role"] == "standby" and not status["full"] and status["link"] == "down"
+
+
+def wrong_at(status: dict) -> list[str]:
+    """What the daemon says is wrong, a sentence each."""
+    found = []
+    if status["dead"]:
+        found.append(f"the guest can do nothing more: {status['dead']}")
+    if status.get("network_error"):
+        found.append(f"the guest's network doesn't carry: {status['network_error']}")
+    for key, (here, there) in (status.get("drift") or {}).items():
+        found.append(f"the two hosts are configured differently: {key} is {here} here and {there} at the other one")
+    return found
