@@ -19,6 +19,7 @@ class Row:
     def __init__(self, bed, name):
         self.bed, self.name, self.measured, self.wrong = bed, name, {}, []
         self.tries, self.past = 0, 0  # tries with this guest, and with those before it
+        self.skipped: str | None = None  # how it was tried, where that isn't as it should be
         self.transfers = 0  # that were acknowledged to the bank's clients
 
     def note(self, name, value):
@@ -398,8 +399,10 @@ def tried(bed, name, times=None, only=None):
     """A row, tried on its guests one after the other, so many times on each; or on one guest alone."""
     what, usual = ROWS[name]
     row = Row(bed, name)
-    for guest, count in ({only: max(usual.values())} if only else usual).items():
-        guest = {"web": WEB, "counter": COUNTER}.get(guest) or bed.database.guest()
+    for kind, count in ({only: max(usual.values())} if only else usual).items():
+        guest = {"web": WEB, "counter": COUNTER}.get(kind) or bed.database.guest()
+        if kind == "bank":
+            row.skipped = row.skipped or bed.database.missing
         row.past, row.tries = row.past + row.tries, 0
         try:
             if bed.guest != guest or bed.live() is None:
