@@ -71,7 +71,7 @@ mkdir "$room/one"
 options="-DSQLITE_OS_OTHER=1 -DSQLITE_THREADSAFE=0 -DSQLITE_OMIT_LOAD_EXTENSION -DSQLITE_TEMP_STORE=3 -DSQLITE_DEFAULT_MEMSTATUS=0
     -DSQLITE_ENABLE_MEMSYS5 -DSQLITE_ZERO_MALLOC -DSQLITE_OMIT_LOCALTIME -DSQLITE_DQS=0 -DSQLITE_OMIT_DEPRECATED
     -DSQLITE_OMIT_SHARED_CACHE -DSQLITE_USE_ALLOCA -DSQLITE_MAX_MMAP_SIZE=0 -DSQLITE_DEFAULT_CACHE_SIZE=-256
-    -DSQLITE_DEFAULT_WAL_AUTOCHECKPOINT=250 -DSQLITE_DEFAULT_FOREIGN_KEYS=1 -DNDEBUG"
+    -DSQLITE_DEFAULT_FOREIGN_KEYS=1 -DNDEBUG"
 if [ -n "${AMALGAMATION:-}" ]; then
     mkdir -p "$AMALGAMATION"
     cp "$room/one/sqlite3.c" "$room/one/sqlite3.h" "$AMALGAMATION"
@@ -88,7 +88,7 @@ cp -r "$here" "$room/sql"
 cp -r "$here/../server" "$here/../lib" "$room"
 cd "$room"
 sources="secret.c server/server.c server/disk.c server/network.c server/reopen.c one/sqlite3.c"
-for name in guest log vfs locks text settings stacks turns patterns functions digest password scram statement session work query rows \
+for name in guest log vfs locks database text settings stacks turns patterns functions digest password scram statement session work query rows \
     messages parameters trigger extended postgres request table page door http connections; do
     sources="$sources sql/$name.c"
 done

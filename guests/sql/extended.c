@@ -308,12 +308,17 @@ static enum outcome run_compiled(struct session *session, struct extended *exten
         return FAILED;
     if (has_changed(of))
         return other_columns(failure);
+    int is_first = sqlite3_get_autocommit(session->database);
     if (is_plain && !(extended->is_alone && is_safe) && begin_implicit(session, 0) != ENDED)
         return WAITS;
     columns_drop(&portal->columns);
     columns_start(&portal->columns, of->compiled, portal->binary, told);
     extended->running = portal;
     enum outcome outcome = run(session, of->compiled, &portal->rows, take_row, &portal->count, failure);
+    if (outcome == COLLIDES && is_first) {
+        give_up_implicit(session);
+        return WAITS;
+    }
     if (outcome == COLLIDES)
         return refuse(failure, "40001", "another client's transaction came between the statements of this one");
     if (outcome == FAILED && portal->columns.is_changed)

@@ -3,6 +3,7 @@
 #include <stddef.h>
 
 #include "clock.h"
+#include "database.h"
 #include "log.h"
 #include "sqlite3.h"
 #include "vfs.h"
@@ -24,14 +25,6 @@ int sqlite3_os_init(void) { return vfs_register(); }
 
 int sqlite3_os_end(void) { return SQLITE_OK; }
 
-/* The first question to a database plays its journal back. A database that can't be read answers its clients so. */
-static void play_back(void) {
-    sqlite3 *database;
-    if (sqlite3_open(DATABASE, &database) == SQLITE_OK)
-        sqlite3_exec(database, "SELECT count(*) FROM sqlite_schema", NULL, NULL, NULL);
-    sqlite3_close(database);
-}
-
 int guest_start(void) {
     static uint8_t heap[HEAP] __attribute__((aligned(16)));
     static uint8_t thread[64] __attribute__((aligned(16))); /* what picolibc has once a thread: errno */
@@ -39,6 +32,6 @@ int guest_start(void) {
     if (sqlite3_config(SQLITE_CONFIG_HEAP, heap, (int)sizeof heap, 32) != SQLITE_OK || log_start() != SQLITE_OK || !vfs_start()
         || sqlite3_initialize() != SQLITE_OK)
         return 0;
-    play_back();
+    database_start();
     return 1;
 }

@@ -57,14 +57,31 @@ int log_lock(struct log_locks *locks, int first, int count, int to_write) {
     return 1;
 }
 
+/* The log's locks that are never for reading: of who writes it, who empties it and who makes its index. */
+#define LOG_WRITERS 7u
+
+static int are_readers_awaited;
+
+void log_await_readers(void) { are_readers_awaited = 1; }
+
+static int is_news(uint32_t written, uint32_t read) {
+    if ((written & LOG_WRITERS) != 0)
+        return 1;
+    int is_awaited = read != 0 && are_readers_awaited;
+    if (is_awaited)
+        are_readers_awaited = 0;
+    return is_awaited;
+}
+
 void log_unlock(struct log_locks *locks, int first, int count) {
+    uint32_t those = ((1u << count) - 1) << first;
+    lowered += is_news(locks->written & those, locks->read & those);
     for (int i = first; i < first + count; i++) {
         log_readers[i] -= locks->read >> i & 1;
         log_writers[i] -= locks->written >> i & 1;
         locks->read &= ~(1u << i);
         locks->written &= ~(1u << i);
     }
-    lowered++;
 }
 
 uint32_t lock_lowered(void) { return lowered; }

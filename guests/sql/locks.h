@@ -34,8 +34,10 @@ struct log_locks {
 int log_lock(struct log_locks *locks, int first, int count, int to_write);
 void log_unlock(struct log_locks *locks, int first, int count);
 
-/* How often a lock of either kind was given back: whoever waits for one tries again when this has changed. */
+/* How often a lock of either kind was given back that somebody may wait for, who tries again when this has changed: the next that stops to
+   read the log is among these only where he is awaited. */
 uint32_t lock_lowered(void);
+void log_await_readers(void);
 
 /* What was given back since it was so often had been taken since too: nobody has waited for it. */
 void lock_forget_lowered(uint32_t count);

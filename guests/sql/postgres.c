@@ -268,7 +268,7 @@ static enum outcome take_sync(struct client *client, struct failure *failure) {
     enum outcome outcome = session->database == NULL ? ENDED : end_implicit(session, failure);
     if (outcome == WAITS)
         return WAITS;
-    if (outcome == FAILED)
+    if (outcome != ENDED)
         say_error(&session->out, "ERROR", failure->code, failure->why);
     if (!is_in_block(session))
         forget_portals(&client->extended);

@@ -3,9 +3,9 @@
 #include <string.h>
 
 #include "clock.h"
+#include "database.h"
 #include "functions.h"
 #include "locks.h"
-#include "vfs.h"
 #include "work.h"
 
 /* SQLite looks after so many of its operations whether the turn is over, and whether the statement is to stop. */
@@ -57,12 +57,11 @@ struct session *session_start(const struct service *service, void *connection) {
 int session_open(struct session *session) {
     if (session->database != NULL)
         return 1;
-    if (sqlite3_open(DATABASE, &session->database) != SQLITE_OK || !functions_make(session)) {
+    if (database_open(&session->database) != SQLITE_OK || !functions_make(session)) {
         sqlite3_close(session->database);
         session->database = NULL;
         return 0;
     }
-    sqlite3_extended_result_codes(session->database, 1);
     sqlite3_progress_handler(session->database, OPERATIONS, is_stopped, session);
     return 1;
 }
@@ -302,7 +301,7 @@ void session_begin(struct session *session) {
 }
 
 void session_rest(struct session *session) {
-    session->is_asked = 0;
+    session->is_asked = session->had_room = 0;
     session->stop = NOT_STOPPED;
     session->waits_since = 0;
     if (!is_in_block(session))

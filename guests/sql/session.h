@@ -71,6 +71,9 @@ struct session {
     uint64_t deadline;
     enum stop stop;
     struct settings settings;
+    int is_told;       /* the connection knows what it may do */
+    int wants_room;    /* the log was full: it is to begin anew before this writes again */
+    int had_room;      /* it has, for what was asked last */
     /* Its transaction. */
     int is_implicit;   /* it was begun for several statements, and ends with them */
     int is_failed;     /* a statement in it failed: only its end is taken */

@@ -1,7 +1,7 @@
-/* A virtual file system of SQLite (sqlite3_vfs) over the disk: one database, its rollback journal and its write-ahead log, each in a fixed
-   area of the disk, and in sector 0 which of them there are and how long they are. A write is on the disk when it returns, in order; the
-   length of a file is written when it is synced, cut or deleted. The index of the log, which its connections share, is in memory alone: a
-   boot makes it anew. */
+/* A virtual file system of SQLite (sqlite3_vfs) over the disk: one database, its rollback journal and its write-ahead log, each in an area
+   of the disk, and in sector 0 which of them there are, how long they are, and where the log's begins. A write is on the disk when it
+   returns, in order; the length of a file is written when it is synced, cut or deleted. The index of the log, which its connections share,
+   is in memory alone: a boot makes it anew. After each read and write others may have their turns. */
 #include "vfs.h"
 
 #include <string.h>
@@ -10,9 +10,7 @@
 #include "clock.h"
 #include "locks.h"
 #include "sqlite3.h"
-
-#define FILES 3
-#define DATABASE_FILE 0
+#include "turns.h"
 
 /* The first bytes of sector 0 of a disk that has files: 'sqlfiles'. */
 #define WRITTEN 0x73656c69666c7173
@@ -24,14 +22,15 @@
 #endif
 
 /* Where the areas begin, in sectors, and where the last ends. */
-static const uint32_t areas[FILES + 1] = {8, JOURNAL_SECTOR, LOG_SECTOR, DISK_SECTORS};
+static uint32_t areas[FILES + 1] = {8, JOURNAL_SECTOR, LOG_SECTOR, DISK_SECTORS};
 static const char *const names[FILES] = {DATABASE, DATABASE "-journal", DATABASE "-wal"};
 
 static struct head {
     uint64_t written;
     uint64_t exists[FILES];
     uint64_t length[FILES];
-    uint8_t rest[SECTOR - 8 - 16 * FILES];
+    uint64_t log_sector; /* 0: FIRST_LOG_SECTOR */
+    uint8_t rest[SECTOR - 16 - 16 * FILES];
 } head __attribute__((aligned(8)));
 
 struct file {
@@ -99,7 +98,7 @@ static void write_bytes(uint32_t area, uint64_t at, const uint8_t *from, uint32_
 
 /* The methods of a file. */
 
-static int index_unmap(sqlite3_file *file, int is_last);
+static int index_unmap(sqlite3_file *file, int is_log_deleted);
 
 static int file_close(sqlite3_file *file) {
     index_unmap(file, 0);
@@ -113,6 +112,7 @@ static int file_read(sqlite3_file *file, void *to, int count, sqlite3_int64 at) 
     uint64_t there = (uint64_t)at >= length ? 0 : length - (uint64_t)at;
     uint32_t wanted = there < (uint64_t)count ? (uint32_t)there : (uint32_t)count;
     read_bytes(areas[number], (uint64_t)at, to, wanted);
+    turn_look();
     if (wanted == (uint32_t)count)
         return SQLITE_OK;
     memset((uint8_t *)to + wanted, 0, (uint32_t)count - wanted);
@@ -122,11 +122,12 @@ static int file_read(sqlite3_file *file, void *to, int count, sqlite3_int64 at) 
 static int file_write(sqlite3_file *file, const void *from, int count, sqlite3_int64 at) {
     int number = of(file)->number;
     uint64_t end = (uint64_t)at + (uint64_t)count;
-    if (end > (uint64_t)(areas[number + 1] - areas[number]) * SECTOR)
+    if (end > vfs_room(number))
         return SQLITE_FULL;
     write_bytes(areas[number], (uint64_t)at, from, (uint32_t)count);
     if (end > head.length[number])
         head.length[number] = end;
+    turn_look();
     return SQLITE_OK;
 }
 
@@ -212,13 +213,13 @@ static int index_lock(sqlite3_file *file, int first, int count, int flags) {
 
 static void index_barrier(sqlite3_file *file) { (void)file; }
 
-static int index_unmap(sqlite3_file *file, int is_last) {
-    (void)is_last;
+/* The index is kept while nobody has it: it is right as long as the log is there. */
+static int index_unmap(sqlite3_file *file, int is_log_deleted) {
     if (!of(file)->has_index)
         return SQLITE_OK;
     of(file)->has_index = 0;
     log_unlock(&of(file)->log, 0, LOG_LOCKS);
-    if (--index_users > 0)
+    if (--index_users > 0 || !is_log_deleted)
         return SQLITE_OK;
     for (int i = 0; i < MOST_PARTS; i++) {
         sqlite3_free(index_parts[i]);
@@ -309,6 +310,7 @@ static int vfs_random(sqlite3_vfs *vfs, int count, char *to) {
 
 static int vfs_sleep(sqlite3_vfs *vfs, int microseconds) {
     (void)vfs;
+    turn_leave();
     return microseconds;
 }
 
@@ -353,9 +355,17 @@ int vfs_start(void) {
     if (head.written != WRITTEN) {
         memset(&head, 0, sizeof head);
         head.written = WRITTEN;
+    }
+    if (head.log_sector == 0 && !head.exists[JOURNAL_FILE] && !head.exists[LOG_FILE]) {
+        head.log_sector = LOG_SECTOR;
         write_head();
     }
+    areas[LOG_FILE] = head.log_sector == 0 ? FIRST_LOG_SECTOR : (uint32_t)head.log_sector;
     return 1;
 }
+
+uint64_t vfs_length(int file) { return head.exists[file] ? head.length[file] : 0; }
+
+uint64_t vfs_room(int file) { return (uint64_t)(areas[file + 1] - areas[file]) * SECTOR; }
 
 int vfs_register(void) { return sqlite3_vfs_register(&vfs, 1); }

@@ -2,6 +2,7 @@
 
 #include <string.h>
 
+#include "database.h"
 #include "locks.h"
 
 #define COLLISION "the database is locked by another client's transaction, and this one has begun to read"
@@ -58,6 +59,7 @@ static const char *code_of(int said, const char *why) {
     case SQLITE_INTERRUPT: return "57014";
     case SQLITE_MISMATCH: return "42804";
     case SQLITE_READONLY: return "25006";
+    case SQLITE_AUTH: return "42501";
     case SQLITE_IOERR:
     case SQLITE_CANTOPEN: return "58030";
     case SQLITE_CORRUPT:
@@ -120,6 +122,30 @@ static enum outcome locked(struct session *session, const struct before *before,
 
 static int is_busy(int said) { return (said & 0xff) == SQLITE_BUSY || (said & 0xff) == SQLITE_LOCKED; }
 
+/* Has the log begin anew where it is full, before a transaction writes. Answers whether it may write; otherwise somebody reads in the log
+   still. */
+static int has_room(struct session *session) {
+    struct before before = before_of(session);
+    if (before.had != SQLITE_TXN_NONE || !(session->wants_room || (log_is_there() && log_is_tight())))
+        return 1;
+    if (is_busy(log_empty(session->database))) {
+        leave_no_news(session, &before);
+        log_await_readers();
+        return 0;
+    }
+    session->wants_room = 0;
+    session->had_room = 1;
+    return 1;
+}
+
+/* Whether what failed is to be tried again when the log has begun anew. Where it can't be, what is asked next has the room. */
+static int is_for_room(struct session *session, int said) {
+    if ((said & 0xff) != SQLITE_FULL || !log_is_there() || session->had_room)
+        return 0;
+    session->wants_room = 1;
+    return 1;
+}
+
 /* What settings are shown as. */
 static const char *shown(const char *name) {
     static const char *const values[][2] = {
@@ -156,8 +182,11 @@ enum outcome prepare(struct session *session, struct statement *statement, sqlit
     if (statement->kind == NOTHING || statement->kind == SET || statement->kind == DISCARD || statement->kind == DEALLOCATE)
         return ENDED;
     struct before before = before_of(session);
-    const char *sql = statement->sql == NULL ? statement->begin : statement->sql, *after;
-    int said = sqlite3_prepare_v2(session->database, sql, -1, prepared, &after);
+    const char *sql = statement->sql == NULL ? statement->begin : statement->sql, *after = sql;
+    int said = session->is_told ? SQLITE_OK : database_tell(session->database);
+    session->is_told = said == SQLITE_OK;
+    if (session->is_told)
+        said = sqlite3_prepare_v2(session->database, sql, -1, prepared, &after);
     if (statement->sql == NULL)
         *rest = after;
     if (is_busy(said))
@@ -172,6 +201,8 @@ enum outcome run(struct session *session, sqlite3_stmt *prepared, struct text *a
     uint32_t begun = answer->length;
     session->was_block = is_in_block(session);
     *rows = 0;
+    if (!sqlite3_stmt_readonly(prepared) && !has_room(session))
+        return WAITS;
     while ((said = sqlite3_step(prepared)) == SQLITE_ROW && !answer->is_full)
         take_row(session, prepared, ++*rows);
     if (said == SQLITE_DONE && !answer->is_full)
@@ -186,6 +217,8 @@ enum outcome run(struct session *session, sqlite3_stmt *prepared, struct text *a
     sqlite3_reset(prepared);
     if (!answer->is_full && is_busy(said))
         outcome = locked(session, &before, failure);
+    else if (!answer->is_full && is_for_room(session, said) && (!before.was_open || session->is_implicit))
+        outcome = before.was_open ? COLLIDES : WAITS;
     text_cut(answer, begun);
     return outcome;
 }
@@ -220,6 +253,8 @@ enum outcome begin_implicit(struct session *session, int is_eager) {
     if (!sqlite3_get_autocommit(session->database) || session->is_failed)
         return ENDED;
     struct before before = before_of(session);
+    if (is_eager && !has_room(session))
+        return WAITS;
     tell(session, is_eager ? "BEGIN IMMEDIATE" : "BEGIN");
     session->is_implicit = !sqlite3_get_autocommit(session->database);
     if (session->is_implicit)
@@ -234,6 +269,7 @@ enum outcome end_implicit(struct session *session, struct failure *failure) {
     int said = sqlite3_exec(session->database, "COMMIT", NULL, NULL, NULL);
     if (is_busy(said))
         return WAITS;
+    enum outcome outcome = is_for_room(session, said) ? COLLIDES : FAILED;
     session->is_implicit = 0;
     session->has_savepoint = 0;
     if (said == SQLITE_OK)
@@ -241,7 +277,7 @@ enum outcome end_implicit(struct session *session, struct failure *failure) {
     fails(session, said, failure);
     if (!sqlite3_get_autocommit(session->database))
         tell(session, "ROLLBACK");
-    return FAILED;
+    return outcome;
 }
 
 void give_up_implicit(struct session *session) {

@@ -51,7 +51,7 @@ int is_let_in(const struct session *session, enum kind kind);
 /* Begins the transaction of several statements, unless one is open; `is_eager`: as one that writes, after others stood in its way. */
 enum outcome begin_implicit(struct session *session, int is_eager);
 
-/* Ends it. */
+/* Ends it. COLLIDES: it didn't come about, for want of room that is there where it is begun anew; `failure` says so. */
 enum outcome end_implicit(struct session *session, struct failure *failure);
 
 /* Gives it up, to begin anew. */

@@ -14,6 +14,7 @@
 #include <string.h>
 #include <unistd.h>
 
+#include "../../guests/sql/database.h"
 #include "../../guests/sql/door.h"
 #include "../../guests/sql/http.h"
 #include "../../guests/sql/log.h"
@@ -98,6 +99,7 @@ int main(int count, char **words) {
     medium_make(words[1]);
     if (log_start() != SQLITE_OK || sqlite3_initialize() != SQLITE_OK || vfs_register() != SQLITE_OK || !vfs_start())
         return 2;
+    database_start();
     while (fgets(line, sizeof line, stdin) != NULL) {
         const char *what = strtok(line, " \n"), *which = strtok(NULL, " \n"), *with = strtok(NULL, " \n");
         alarm(WATCHDOG);

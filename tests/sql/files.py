@@ -42,6 +42,7 @@ def killed(built: Built, room: Path) -> Iterator[tuple[str, str | None]]:
     disk = room / "killed"
     served = Served(built, disk)
     client = Postgres(served.postgres)
+    client.ask("PRAGMA journal_mode = DELETE")
     client.ask("CREATE TABLE t(a INTEGER PRIMARY KEY, b TEXT)")
     client.ask("WITH RECURSIVE c(x) AS (VALUES(1) UNION ALL SELECT x+1 FROM c WHERE x<2000) "
                "INSERT INTO t SELECT x, printf('%.100c', 'a') FROM c")

@@ -14,8 +14,8 @@ ROOT = Path(__file__).resolve().parents[2]
 GUEST, HERE = ROOT / "guests/sql", Path(__file__).resolve().parent
 # A smaller disk than the guest's: the database has 1 MiB, the journal and the log half of that each.
 FLAGS = ["-std=gnu11", "-O1", "-Wall", "-Wextra", "-Werror", "-DDISK_SECTORS=4096", "-DJOURNAL_SECTOR=2048", "-DLOG_SECTOR=3072",
-         f"-I{HERE}", f"-I{GUEST}"]
-FILES = ["vfs", "locks", "turns"]
+         "-DFIRST_LOG_SECTOR=3584", f"-I{HERE}", f"-I{GUEST}"]
+FILES = ["vfs", "locks", "turns", "database"]
 SANITIZERS = ["-g", "-fsanitize=address,undefined", "-fno-sanitize-recover=all"]
 UNITS = ["digest", "locks", "statement", "request"]
 SESSIONS = ["text", "log", "settings", "patterns", "functions", "digest", "password", "scram", "statement", "session", "work", "query",

@@ -5,7 +5,7 @@ import subprocess
 from pathlib import Path
 
 SECTOR = 512
-DATABASE, JOURNAL, LOG = 8, 20488, 28680  # the first sector of each area (guests/sql/vfs.h)
+DATABASE, JOURNAL, LOG, END = 8, 20488, 24584, 32768  # the first sector of each area, and after the last (guests/sql/vfs.h)
 
 
 def sectors(program: str, record: Path, first: int, last: int) -> bytes:
@@ -17,10 +17,11 @@ def sectors(program: str, record: Path, first: int, last: int) -> bytes:
 
 
 def files_of(disk: bytes, folder: Path) -> Path:
-    """The database on a disk, of which these are the sectors before LOG, and beside it its journal where there is one."""
-    exists = [int.from_bytes(disk[8 + 8 * i:16 + 8 * i], "little") for i in range(2)]
-    lengths = [int.from_bytes(disk[32 + 8 * i:40 + 8 * i], "little") for i in range(2)]
-    for place, there, length, name in zip((DATABASE, JOURNAL), exists, lengths, ("database", "database-journal")):
+    """The database on a disk, and beside it its journal and its log where there are these."""
+    exists = [int.from_bytes(disk[8 + 8 * i:16 + 8 * i], "little") for i in range(3)]
+    lengths = [int.from_bytes(disk[32 + 8 * i:40 + 8 * i], "little") for i in range(3)]
+    names = ("database", "database-journal", "database-wal")
+    for place, there, length, name in zip((DATABASE, JOURNAL, LOG), exists, lengths, names):
         (folder / name).unlink(missing_ok=True)
         if there:
             (folder / name).write_bytes(disk[place * SECTOR:place * SECTOR + length])
@@ -29,4 +30,4 @@ def files_of(disk: bytes, folder: Path) -> Path:
 
 def database(program: str, record: Path, folder: Path) -> Path:
     """The database of a record, as a file in a folder."""
-    return files_of(sectors(program, record, 0, LOG), folder)
+    return files_of(sectors(program, record, 0, END), folder)

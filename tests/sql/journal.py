@@ -14,7 +14,7 @@ from oracle.checkpoints import read_stream
 from tests.hosts import PROGRAM, loopback_pair
 from tests.postgres import Postgres
 from tests.served import free_port
-from tests.sql.image import DATABASE, JOURNAL, LOG, SECTOR, files_of
+from tests.sql.image import END, SECTOR, files_of
 from tests.sql.two_hosts import Line
 from tests.sql.web import Browser
 
@@ -42,7 +42,7 @@ class Trial:
         try:
             self.hosts[0].start().ask("promote", boot=True)
             client = Postgres(ports[0], timeout=300)
-            for sql in (TABLE, "BEGIN", CHANGE):
+            for sql in ("PRAGMA journal_mode = DELETE", TABLE, "BEGIN", CHANGE):
                 client.ask(sql)
             self.save(0, self.saved)
             self.steps = self.hosts[0].status()["steps"]
@@ -69,11 +69,11 @@ def text_of(snapshot: Path) -> bytes:
 
 
 def disk_of(snapshot: Path) -> bytes:
-    """The sectors of a snapshot's disk up to the log's."""
+    """The sectors of a snapshot's disk."""
     [checkpoint], ending = read_stream(text_of(snapshot), PAGES, SECTORS)
     if ending is not None:
         raise OSError(f"{snapshot} isn't a checkpoint: {ending!r}")
-    return b"".join(checkpoint.sector_records.get(number, bytes(SECTOR)) for number in range(LOG))
+    return b"".join(checkpoint.sector_records.get(number, bytes(SECTOR)) for number in range(END))
 
 
 def is_listed(snapshot: Path) -> bool:

@@ -13,6 +13,7 @@
 #include <sys/wait.h>
 #include <unistd.h>
 
+#include "../../guests/sql/database.h"
 #include "disk.h"
 #include "sqlite3.h"
 
@@ -40,7 +41,7 @@ static sqlite3 *opened(void) {
     static sqlite3_io_methods methods;
     sqlite3 *database;
     sqlite3_file *file;
-    if (!vfs_start() || vfs_register() != SQLITE_OK || sqlite3_open(DATABASE, &database) != SQLITE_OK)
+    if (!vfs_start() || vfs_register() != SQLITE_OK || database_open(&database) != SQLITE_OK)
         exit(3);
     if (is_sequential && sqlite3_file_control(database, "main", SQLITE_FCNTL_FILE_POINTER, &file) == SQLITE_OK) {
         methods = *file->pMethods;
@@ -78,8 +79,11 @@ static void begin(void) {
 static void work(void) {
     sqlite3 *database = opened();
     must(database, "PRAGMA cache_size = 10; PRAGMA synchronous = FULL; PRAGMA temp_store = MEMORY; PRAGMA wal_autocheckpoint = 100");
-    for (int number = 1; number <= TRANSACTIONS; number++)
+    for (int number = 1; number <= TRANSACTIONS; number++) {
         change(database, number);
+        if (number == TRANSACTIONS / 2 && log_is_there() && log_empty(database) != SQLITE_OK)
+            exit(3);
+    }
     must(database, "VACUUM");
     sqlite3_close(database);
 }

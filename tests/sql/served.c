@@ -13,6 +13,7 @@
 #include <sys/socket.h>
 #include <unistd.h>
 
+#include "../../guests/sql/database.h"
 #include "../../guests/sql/door.h"
 #include "../../guests/sql/http.h"
 #include "../../guests/sql/log.h"
@@ -173,6 +174,7 @@ int main(int count, char **words) {
     sqlite3_config(SQLITE_CONFIG_MALLOC, &memory);
     if (log_start() != SQLITE_OK || sqlite3_initialize() != SQLITE_OK || vfs_register() != SQLITE_OK || !vfs_start())
         return 2;
+    database_start();
     int listeners[2] = {listening(&postgres), listening(&http)};
     fflush(stdout);
     refused = count > 2 ? (unsigned)atoi(words[2]) : 0;

@@ -161,7 +161,7 @@ def later(act: Callable[[], object]) -> tuple[threading.Thread, list[object]]:
     return thread, came
 
 
-def waiting(served: Served, client: Postgres) -> Iterator[tuple[str, str | None]]:
+def waiting(served: Served, client: Postgres, is_logged: bool = True) -> Iterator[tuple[str, str | None]]:
     others = [Postgres(served.postgres) for _ in range(6)]
     client.ask("BEGIN; UPDATE t SET b = 'held' WHERE a = 1")
     sql = "UPDATE t SET b = b || '+' WHERE a = 1; SELECT b FROM t WHERE a = 1"
@@ -186,14 +186,16 @@ def waiting(served: Served, client: Postgres) -> Iterator[tuple[str, str | None]
     thread.join(30)
     yield "one is begun anew", differs([code, seen, came, client.rows("SELECT b FROM t WHERE a = 1")],
                                        ["40001", [], [[("first",)]], [("anew",)]])
-    # A reader in the way of a commit.
+    # A reader is in the way of a commit, unless there is a log.
     other.ask("BEGIN")
     other.rows("SELECT count(*) FROM t")
     thread, came = later(lambda: client.ask("UPDATE t SET b = 'waits' WHERE a = 1")[0].tag)
+    if is_logged:
+        thread.join(30)
     seen = [list(came), other.rows("SELECT b FROM t WHERE a = 1")]
     other.ask("COMMIT")
     thread.join(30)
-    yield "a commit waits for readers", differs([seen, came], [[[], [("anew",)]], ["UPDATE 1"]])
+    yield f"a commit beside readers, {is_logged}", differs([seen, came], [[["UPDATE 1"] * is_logged, [("anew",)]], ["UPDATE 1"]])
     # Cancelled while it waits.
     client.ask("BEGIN IMMEDIATE")
     thread, came = later(lambda: code_of(lambda: one.ask("DELETE FROM t")))
@@ -297,4 +299,9 @@ def tests(built: Built) -> Iterator[tuple[str, str | None]]:
             yield from triggers(served)
             yield from waiting(served, client)
             yield from nonsense(served)
+        with Served(built, room / "journal") as served:
+            client = Postgres(served.postgres)
+            client.ask("PRAGMA journal_mode = DELETE")
+            client.ask(START)
+            yield from waiting(served, client, is_logged=False)
         yield from want_of_memory(built, room)

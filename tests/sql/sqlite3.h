@@ -15,7 +15,7 @@ typedef struct sqlite3_value sqlite3_value;
 enum {
     SQLITE_OK = 0, SQLITE_ERROR = 1, SQLITE_BUSY = 5, SQLITE_LOCKED = 6, SQLITE_NOMEM = 7, SQLITE_READONLY = 8, SQLITE_INTERRUPT = 9,
     SQLITE_IOERR = 10, SQLITE_CORRUPT = 11, SQLITE_NOTFOUND = 12, SQLITE_FULL = 13, SQLITE_CANTOPEN = 14, SQLITE_TOOBIG = 18,
-    SQLITE_CONSTRAINT = 19, SQLITE_MISMATCH = 20, SQLITE_NOTADB = 26, SQLITE_NOTICE = 27, SQLITE_ROW = 100, SQLITE_DONE = 101,
+    SQLITE_CONSTRAINT = 19, SQLITE_MISMATCH = 20, SQLITE_AUTH = 23, SQLITE_NOTADB = 26, SQLITE_NOTICE = 27, SQLITE_ROW = 100, SQLITE_DONE = 101,
     SQLITE_IOERR_SHORT_READ = SQLITE_IOERR | 2 << 8, SQLITE_IOERR_DELETE_NOENT = SQLITE_IOERR | 23 << 8,
     SQLITE_CONSTRAINT_CHECK = SQLITE_CONSTRAINT | 1 << 8, SQLITE_CONSTRAINT_FOREIGNKEY = SQLITE_CONSTRAINT | 3 << 8,
     SQLITE_CONSTRAINT_NOTNULL = SQLITE_CONSTRAINT | 5 << 8, SQLITE_CONSTRAINT_PRIMARYKEY = SQLITE_CONSTRAINT | 6 << 8,
@@ -25,7 +25,7 @@ enum {
 
 enum { SQLITE_INTEGER = 1, SQLITE_FLOAT = 2, SQLITE_TEXT = 3, SQLITE_BLOB = 4, SQLITE_NULL = 5 };
 enum { SQLITE_TXN_NONE = 0, SQLITE_TXN_READ = 1, SQLITE_TXN_WRITE = 2 };
-enum { SQLITE_OPEN_CREATE = 4 };
+enum { SQLITE_OPEN_CREATE = 4, SQLITE_PRAGMA = 19, SQLITE_DENY = 1 };
 enum { SQLITE_SHM_UNLOCK = 1, SQLITE_SHM_LOCK = 2, SQLITE_SHM_SHARED = 4, SQLITE_SHM_EXCLUSIVE = 8 };
 enum {
     SQLITE_IOCAP_ATOMIC512 = 2, SQLITE_IOCAP_SAFE_APPEND = 0x200, SQLITE_IOCAP_SEQUENTIAL = 0x400,
@@ -116,6 +116,8 @@ int sqlite3_open(const char *, sqlite3 **);
 int sqlite3_close(sqlite3 *);
 int sqlite3_db_config(sqlite3 *, int, ...);
 void sqlite3_interrupt(sqlite3 *);
+int sqlite3_set_authorizer(sqlite3 *, int (*)(void *, int, const char *, const char *, const char *, const char *), void *);
+void *sqlite3_wal_hook(sqlite3 *, int (*)(void *, sqlite3 *, const char *, int), void *);
 int sqlite3_wal_checkpoint_v2(sqlite3 *, const char *, int, int *, int *);
 int sqlite3_extended_result_codes(sqlite3 *, int);
 int sqlite3_limit(sqlite3 *, int, int);
