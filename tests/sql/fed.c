@@ -47,11 +47,12 @@ void carry(struct session *session) {
     place->session = NULL;
 }
 
+static uint8_t digit(char c) { return (uint8_t)(c <= '9' ? c - '0' : c - 'a' + 10); }
+
 static uint32_t bytes_of(const char *hex, uint8_t *to) {
     uint32_t count = 0;
-    unsigned byte;
-    for (; hex != NULL && sscanf(hex, "%2x", &byte) == 1; hex += 2)
-        to[count++] = (uint8_t)byte;
+    for (; hex != NULL && hex[0] != '\0' && hex[1] != '\0'; hex += 2)
+        to[count++] = (uint8_t)(digit(hex[0]) << 4 | digit(hex[1]));
     return count;
 }
 
