@@ -188,14 +188,17 @@ static void give_turn(void) {
         comes_to_rest(session);
 }
 
-/* Those that wait for a lock try again where one was given back. */
+/* Those that wait for a lock try again where one was given back, also where they have tried in this round: they have their order. */
 static void wake(void) {
     static uint32_t seen;
     if (seen == lock_lowered())
         return;
     seen = lock_lowered();
     for (struct session *session = sessions; session != NULL; session = session->next)
-        session->is_due |= session->is_waiting && session->waits_since != 0;
+        if (session->is_waiting && session->waits_since != 0) {
+            session->is_due = 1;
+            session->round = 0;
+        }
 }
 
 static int has_lasted(uint64_t since, uint32_t most) { return most != 0 && clock_now() - since > most; }
