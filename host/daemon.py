@@ -81,8 +81,9 @@ class Daemon:
 
     @property
     def generation(self):
-        holder = self.live or self.standby
-        return holder.generation if holder else 0
+        if self.live:
+            return self.live.generation - self.live.looks.spent
+        return self.standby.generation if self.standby else 0
 
     @property
     def session(self):

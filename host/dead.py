@@ -7,7 +7,7 @@ import struct
 REGISTERS = slice(36, 352)
 LOOKED_AT = struct.Struct("<28xQ248xQQ8xQ8xQQ")  # steps; pc, mstatus, mtvec, mepc, mcause
 RECORDS, NONE = slice(524, 536), bytes(12)  # the counts of pages, sectors and frames, where there are none of the ones before
-LEAST = 536  # bytes
+HEAD, LEAST = 524, 536  # bytes, up to the counts, and with them
 INTERRUPTS_ON = 8  # mstatus' bit MIE
 ALIKE = 20  # checkpoints
 SEEN = 3  # times
@@ -20,11 +20,19 @@ def told(found: dict) -> str:
     return "the guest can do nothing more: it {what}; pc {pc}, mcause {mcause}, mepc {mepc}".format(**found)
 
 
+def has_trapped(text: bytes) -> bool:
+    """Whether the last trap of a guest, by the first bytes of a checkpoint's text in which nothing is written, was none of an interrupt:
+    then its handler may return to it over and over, which one look doesn't tell."""
+    mcause = LOOKED_AT.unpack_from(text)[5]
+    return text[RECORDS] == NONE and 0 < mcause < INTERRUPT
+
+
 class Watch:
     """Two guests are told. One whose registers, pc and all, are the same after numbers of steps that have no common divisor stands on one
-    instruction, which jumps to itself or traps to itself; where interrupts are off as well, nothing makes it go on. And one that is seen
-    again and again at the pc of its last trap, and at the entry of its handler, while the trap stays the same: its handler returns to
-    where it came from, and changes nothing. Both only where nothing is written or sent meanwhile."""
+    instruction, which jumps to itself or traps to itself; where interrupts are off as well, nothing makes it go on. So does one whose
+    registers are the same after a single step. And one that is seen again and again at the pc of its last trap, and at the entry of its
+    handler, while the trap stays the same: its handler returns to where it came from, and changes nothing. Both only where nothing is
+    written or sent meanwhile."""
 
     def __init__(self):
         self.forget()
@@ -63,7 +71,7 @@ class Watch:
         if registers != self.registers or is_interrupted:
             self.divisor = self.alike = 0
         elif steps > self.steps:
-            self.divisor, self.alike = math.gcd(self.divisor, steps - self.steps), self.alike + 1
+            self.divisor, self.alike = math.gcd(self.divisor, steps - self.steps), self.alike + 1 if steps > self.steps + 1 else ALIKE
         self.registers, self.steps = registers, steps
         return self.alike >= ALIKE and self.divisor == 1
 

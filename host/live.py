@@ -4,6 +4,7 @@ from collections import OrderedDict
 
 from host import messages
 from host.dead import Watch, told
+from host.looks import Looks
 from host.node import LOOK, PIECE, STEPS, arrive, looks, text_from
 from host.pacing import TRY_EVERY, Pacer
 from host.text import MOST_PAGE, pages_and_frames
@@ -52,7 +53,7 @@ class Live:
         self.held = 0
         self.late, self.acked_at, self.waited_since = 0.0, now, None
         self.longest = 0.0  # seconds from steps of the guest to the next, though it didn't wait
-        self.watch, self.pacer = Watch(), Pacer(self)
+        self.watch, self.pacer, self.looks = Watch(), Pacer(self), Looks(host, self, now)
         self.start_clock(now)
 
     def start_clock(self, now: float) -> None:
@@ -132,6 +133,8 @@ class Live:
     def turn(self, now):
         if not self.is_stopped:
             self.run(now)
+            if self.mode == ALONE and now >= self.looks.at:
+                self.looks.turn(now)
         self.send(now)
 
     # The guest.
@@ -341,7 +344,7 @@ class Live:
     def protect(self, now):
         """A full checkpoint is cut, for a standby or a file: the next generation begins."""
         answer = self.node.ask("protect")
-        self.generation, self.mode = answer.number(1), FILLING
+        self.generation, self.mode, self.looks.spent = answer.number(1), FILLING, 0
         self.pending = OrderedDict({0: Pending(answer.number(2), False, now)})
         self.to_look, self.most = looks(self.pages), answer.number(2)
         self.cut, self.acked, self.sending, self.sent, self.is_fetched = 0, None, 0, 0, False
@@ -383,4 +386,5 @@ class Live:
         self.pending, self.cut, self.acked, self.is_full = OrderedDict(), None, None, False
         self.moved_at = now
         self.put(answer.frames, now)
+        self.looks.begin(now)
         self.end_wait(now)
