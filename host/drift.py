@@ -72,7 +72,10 @@ def digest_of(guest: str) -> str | None:
 
 
 def is_a_value(value: object) -> bool:
-    return value is None or isinstance(value, (int, float)) and not isinstance(value, bool) or isinstance(value, str) and len(value) <= 64
+    """Whether it may be shown to a reader, and told on as JSON."""
+    if isinstance(value, str):
+        return len(value) <= 64 and value.isprintable()
+    return value is None or isinstance(value, (int, float)) and not isinstance(value, bool) and -1e15 < value < 1e15
 
 
 def shown(key: str, value: Value) -> str:

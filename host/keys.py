@@ -133,12 +133,17 @@ def written_as(folder: Path, file_name: str, name: str) -> tuple[Path, Path]:
 # The renewal of a pair's keys while a link is up: the other host takes the old certificate and the new one, until the new key is used.
 
 def renew(folder: str | Path, name: str) -> Path:
-    """Makes the next key beside the one that is used, which goes on. NAME.crt then has both certificates, the one that is used first. Raises
-    OSError."""
+    """Makes the next key beside the one that is used, which goes on. NAME.crt then has both certificates, the one that is used first. Where
+    that is done already, or a part of it, the rest is. Raises OSError."""
     folder = Path(folder)
-    used, (_, new) = (folder / f"{name}.crt").read_bytes(), written_as(folder, f"{name}.next", name)
-    written(folder / f"{name}.crt", used + new.read_bytes())
-    return folder / f"{name}.crt"
+    crt, new, key = (folder / f"{name}{end}" for end in (".crt", ".next.crt", ".next.key"))
+    used = crt.read_bytes()
+    if not new.exists():
+        key.unlink(missing_ok=True)  # without its certificate nobody has it
+        written_as(folder, f"{name}.next", name)
+    if new.read_bytes() not in used:
+        written(crt, used + new.read_bytes())
+    return crt
 
 
 def switch(folder: str | Path, name: str) -> Path:
