@@ -75,7 +75,7 @@ def parameter(row, times: int) -> None:
 
 
 def slow(row, times: int) -> None:
-    """The daemon of a live host without a standby says nothing for five seconds; and for twenty; and its socket is gone for five."""
+    """The daemon of a live host without a standby says nothing for five seconds; and for fifteen; and its socket is gone for five."""
     bed = row.bed
     for row.tries in range(1, times + 1):
         live, standby = bed.pair()
@@ -83,7 +83,7 @@ def slow(row, times: int) -> None:
         life, begin = bed.status(live)["life"], time.time()
         control = Path(f"/proc/{bed.power.init(live)}/root/run/remus/control.sock")
         with row.clients() as clients:
-            for seconds in (SLOW, 4 * SLOW):
+            for seconds in (SLOW, 3 * SLOW):
                 pid = bed.pid_of_daemon(live)
                 os.kill(pid, signal.SIGSTOP)
                 time.sleep(seconds)
