@@ -1,13 +1,11 @@
 """This host's certificate and the peer's, as their files have them: each new connection is made with what is there by then, so that neither
 is changed by an end of the daemon, and of the guest with it."""
 import os
-import ssl
 
-from host.connection import contexts, reason
+from host.connection import reason
+from host.handshakes import Papers, papers
 from host.logs import Log
 from host.settings import Settings
-
-Taken = tuple[ssl.SSLContext | None, ssl.SSLContext | None, frozenset[bytes]]
 
 
 def stamp(path: str) -> tuple[int, ...] | None:
@@ -27,18 +25,18 @@ class Certificates:
         given = () if settings.plain else (settings.key, settings.certificate, settings.peer_certificate)
         self.paths = [path for path in given if path is not None]
         self.stamps = self.stamped()
-        self.taken: Taken = contexts(settings)
+        self.taken: Papers | None = papers(settings)
 
     def stamped(self) -> list[tuple[int, ...] | None]:
         return [stamp(path) for path in self.paths]
 
-    def current(self) -> Taken:
-        """The contexts to listen and to dial with, and the pinned certificates. While the files don't fit each other, those before go on."""
+    def current(self) -> Papers | None:
+        """What is there now. While the files don't fit each other, those before go on."""
         stamps = self.stamped()
         if stamps != self.stamps:
             self.stamps = stamps
             try:
-                self.taken = contexts(self.settings)
+                self.taken = papers(self.settings)
                 self.log.info("key or certificates have changed: each new link is made with them")
             except (OSError, ValueError) as error:
                 self.log.warning(f"key or certificates have changed, and can't be taken ({reason(error)}): those before go on")

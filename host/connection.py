@@ -1,14 +1,15 @@
 """One connection of the link: TCP, or TLS 1.3 over it, without ever waiting."""
-import re
 import socket
 import ssl
 
 from host import messages
+from host.handshakes import IS_TLS, Papers
 
 CHUNK = 1 << 18
 SMALL = 1 << 14  # bytes: what came in one go, where it is fewer, was all that had come
 WAITING = 256  # connections that the system keeps until they are let in, so that the peer's isn't turned away for strangers
 MOST_UNSENT = 1 << 20  # bytes, after which nothing more is to be given to send
+TLS_RECORDS = b"\x16", b"\x15"  # how they begin, and no message before two hosts have met: a handshake and an alert
 ROOM = bytearray(CHUNK)  # where what comes is put first, whichever connection it comes over
 
 
@@ -17,18 +18,19 @@ class Closed(Exception):
 
 
 class Connection:
-    """`context` is None for a plain one. `pinned` are the certificates one of which the other end must have, as DER."""
+    """`papers` is None for a plain one."""
 
-    def __init__(self, tcp, context, pinned, now, is_server):
+    def __init__(self, tcp: socket.socket, papers: Papers | None, now: float, is_server: bool) -> None:
         tcp.setblocking(False)
         self.address = "?", 0
-        self.is_server, self.pinned, self.begun = is_server, pinned, now
+        self.is_server, self.papers, self.begun = is_server, papers, now
         self.until, self.awaits, self.was_heard = now, "who it is", False  # what is to come next, and when at the latest
         self.socket = tcp
-        self.is_tls = context is not None
+        self.is_tls = papers is not None
         self.is_open = not self.is_tls  # whether the handshake is done
         self.wants_write = False  # TLS must write before it can go on
         if self.is_tls:
+            context = papers.server if is_server else papers.client
             self.socket = context.wrap_socket(tcp, server_side=is_server, do_handshake_on_connect=False,
                                               suppress_ragged_eofs=True)
         self.came, self.unsent = bytearray(), bytearray()
@@ -69,11 +71,25 @@ class Connection:
         except ssl.SSLWantWriteError:
             self.wants_write = True
             return
+        except (ssl.SSLZeroReturnError, ssl.SSLEOFError, ConnectionError):
+            raise Closed("it closed the connection in the handshake: 'plain' may be set there, or something else has that port") from None
         except (OSError, ValueError) as error:
-            raise Closed(f"the handshake failed: {reason(error)}") from None
-        if self.socket.getpeercert(binary_form=True) not in self.pinned:
-            raise Closed("the handshake failed: another certificate than the pinned one")
+            raise Closed(self.why(error) or f"the handshake failed: {reason(error)}") from None
+        if why := self.papers.why_not(self.socket.getpeercert(binary_form=True)):
+            raise Closed(why)
         self.is_open = True
+
+    def why_silent(self, otherwise: str) -> str:
+        """Why it may be that the other end has closed the connection."""
+        if self.is_server or self.most != messages.MOST_BEFORE or self.came:
+            return otherwise
+        if not self.is_tls:
+            return "it closed the connection without a word: it may speak TLS, and 'plain' is set here"
+        return f"it closed the connection without a word: it may not take this host's certificate. {self.papers.to_copy()}"
+
+    def why(self, error: Exception) -> str | None:
+        """What an error says of a certificate, if it does."""
+        return self.papers.why_failed(error) if self.is_tls and isinstance(error, ssl.SSLError) else None
 
     def send(self, data):
         """Sends what it can, and keeps the rest to be sent. Raises Closed."""
@@ -114,7 +130,7 @@ class Connection:
             while budget > 0:
                 count = self.socket.recv_into(ROOM)
                 if not count:
-                    ended = "the other end closed it"
+                    ended = self.why_silent("the other end closed it")
                     break
                 self.came += ROOM[:count]
                 budget -= count
@@ -125,8 +141,12 @@ class Connection:
             pass
         except ssl.SSLWantWriteError:
             self.wants_write = True
+        except ConnectionError as error:
+            ended = self.why_silent(reason(error))
         except (OSError, ValueError) as error:
-            ended = reason(error)
+            ended = self.why(error) or reason(error)
+        if not self.is_tls and self.most == messages.MOST_BEFORE and self.came[:1] in TLS_RECORDS:
+            raise Closed(IS_TLS)
         found = messages.taken(self.came, self.most)
         if found:
             self.heard_at = now
@@ -146,41 +166,11 @@ class Connection:
 
 
 def reason(error):
-    if isinstance(error, ssl.SSLCertVerificationError):
-        return f"the certificate isn't the pinned one ({error.verify_message})"
     if isinstance(error, (ssl.SSLZeroReturnError, ssl.SSLEOFError)):
         return "the other end closed it"
     if isinstance(error, ssl.SSLError):
         return (error.reason or "TLS failed").lower().replace("_", " ")
     return getattr(error, "strerror", None) or str(error) or "it failed"
-
-
-def contexts(settings):
-    """The TLS contexts to listen and to dial with, and the pinned certificates; none for a plain link. Raises OSError, ValueError."""
-    if settings.plain or settings.listen is None:
-        return None, None, frozenset()
-    made = []
-    for protocol in (ssl.PROTOCOL_TLS_SERVER, ssl.PROTOCOL_TLS_CLIENT):
-        context = ssl.SSLContext(protocol)
-        context.minimum_version = ssl.TLSVersion.TLSv1_3
-        context.check_hostname = False
-        context.verify_mode = ssl.CERT_REQUIRED
-        context.load_cert_chain(settings.certificate, settings.key)
-        context.load_verify_locations(settings.peer_certificate)
-        context.verify_flags |= ssl.VERIFY_X509_PARTIAL_CHAIN  # the certificate itself, where another one has its name
-        if protocol is ssl.PROTOCOL_TLS_SERVER:
-            context.num_tickets = 0  # no session is resumed: each link is authenticated anew
-        made.append(context)
-    return made[0], made[1], pinned(settings.peer_certificate)
-
-
-def pinned(path):
-    """The certificates of a file, as DER: one, or two while the peer's is renewed. Raises OSError, ValueError."""
-    with open(path) as file:
-        found = re.findall(f"{ssl.PEM_HEADER}.*?{ssl.PEM_FOOTER}", file.read(), re.S)
-    if not found:
-        raise ValueError(f"{path} has no certificate")
-    return frozenset(map(ssl.PEM_cert_to_DER_cert, found))
 
 
 def dialled(address):

@@ -46,6 +46,7 @@ def add(kinds: Any) -> None:
                                     help="a standby from its log goes live though the peer wasn't heard: it is lost for good")
     readers["promote"].add_argument("--bare", action="store_true",
                                     help="with --from or --disk: takes also the text of a full checkpoint alone, which has no sum")
+    readers["promote"].add_argument("--force", action="store_true", help="even where the peer says that it is live")
     readers["alone"].add_argument("--standby", metavar="INSTANCE", help="only if this is the standby")
     readers["drain"].add_argument("--promote", action="store_true", help="tells the standby to go live then")
     readers["drain"].add_argument("--within", type=milliseconds, metavar="MS", help="the longest that it may take")
@@ -81,7 +82,7 @@ def milliseconds(word: str) -> float:
 def request_of(plan: argparse.Namespace) -> dict[str, Any]:
     request = {"do": plan.verb}
     if plan.verb == "promote":
-        request |= {name: True for name in ("boot", "new", "bare", "without_peer") if getattr(plan, name)}
+        request |= {name: True for name in ("boot", "new", "bare", "without_peer", "force") if getattr(plan, name)}
         request |= {name: os.path.abspath(path) for name, path in (("from", plan.source), ("disk", plan.disk)) if path}
     elif plan.verb == "alone" and plan.standby:
         request["standby"] = plan.standby

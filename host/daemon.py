@@ -247,8 +247,9 @@ class Daemon:
         self.is_over = True
 
     @property
-    def dials(self):
-        return self.live is None or self.is_frozen
+    def dials(self) -> bool:
+        """A live host looks for another one, but while it hands its guest on."""
+        return self.live is None or self.is_frozen or not self.live.is_stopped
 
     def turn(self):
         is_patient = self.live is not None and self.live.is_patient

@@ -1,6 +1,7 @@
-"""The link to the peer: who isn't live dials, who is live takes the one standby that comes. What two hosts say when they meet is in
+"""The link to the peer: who has none dials, and who is live takes the one standby that comes. What two hosts say when they meet is in
 meeting.py; here are the sockets, and what comes from strangers."""
 import errno
+import os
 import random
 import socket
 import time
@@ -8,6 +9,7 @@ import time
 from host import messages
 from host.certificates import Certificates
 from host.connection import Closed, Connection, dialled, listening
+from host.troubles import Said, Trouble
 
 MOST_STRANGERS = 128  # connections that haven't shown who they are, of the peer's address and of all others; the oldest makes room
 MOST_CALLERS = 4  # connections of the peer that aren't attached: it has one, and each other one is of before
@@ -15,6 +17,7 @@ ACCEPTED_AT_ONCE = 16  # strangers that are let in in one turn of the loop
 HEARD_AT_ONCE = 2  # strangers that are heard in one turn
 PATIENCE = 5.0  # seconds, for a stranger to say who it is, and for the peer to say what comes next
 AGAIN = 0.25  # seconds, until the peer is dialled again
+RECENT = 10.0  # seconds, for which it is told why who came from the peer's address wasn't let in
 
 
 class Link:
@@ -29,8 +32,11 @@ class Link:
         self.strangers, self.callers, self.call, self.tcp, self.tcp_begun = [], [], None, None, 0.0
         self.connection, self.session = None, None  # the attached connection, and its session's name
         self.dial_at, self.heard_at, self.lost_at = 0.0, None, None
+        self.connects_in = min(max(settings.link_ms / 2, AGAIN), PATIENCE)  # seconds, for a connection to the peer to come about
         self.meeting = self.attached = self.lost = None
         self.now = time.monotonic
+        self.trouble = Trouble(log)  # with the peer, where this host dials it
+        self.refused, self.refusal = Said(log, "refused"), (None, -RECENT)  # of who comes; of the peer's address the last, and when
 
     # What an attachment's ends use.
 
@@ -57,12 +63,17 @@ class Link:
     def attach(self, connection, session, now):
         """This connection is the attachment's from now on."""
         self.forget(connection)
-        if self.connection is not None and self.connection is not connection:
-            self.connection.close()
+        for other in (self.connection, self.call, self.tcp):
+            if other is not None and other is not connection:
+                other.close()
+        self.call = self.tcp = None
         connection.met()
         self.connection, self.session, self.heard_at = connection, session, now
         connection.heard_at = connection.said_at = now
         self.counts.links += 1
+        self.trouble.is_over("the link is up")
+        self.refused.forget(connection.address[0])
+        self.refusal = None, -RECENT
 
     def close(self):
         """The attached connection is over, by this host's will."""
@@ -92,7 +103,7 @@ class Link:
             quiet = self.settings.link_ms
             times += self.connection.heard_at + quiet, self.connection.said_at + quiet / 4
         elif dials and self.settings.peer and self.call is None:
-            times.append(self.tcp_begun + PATIENCE if self.tcp else self.dial_at)
+            times.append(self.tcp_begun + self.connects_in if self.tcp else self.dial_at)
         return min(times, default=None)
 
     def peers(self):
@@ -159,9 +170,8 @@ class Link:
 
     def connection_of(self, tcp, address, now, is_server):
         """None where the socket is of no use any more."""
-        to_listen, to_dial, pinned = self.certificates.current()
         try:
-            connection = Connection(tcp, to_listen if is_server else to_dial, pinned, now, is_server)
+            connection = Connection(tcp, self.certificates.current(), now, is_server)
         except (OSError, ValueError):
             tcp.close()
             return None
@@ -171,11 +181,24 @@ class Link:
     def dial(self, now):
         try:
             self.tcp, self.tcp_begun = dialled(self.settings.peer), now
-        except OSError:
-            self.dial_at = now + AGAIN
+        except OSError as error:
+            self.cannot_dial(error.errno, now)
+
+    def wait_for_calls(self, now):
+        """The peer calls by itself: it needn't be dialled."""
+        self.dial_at = max(self.dial_at, now + 2 * AGAIN)
+
+    def cannot_dial(self, number, now):
+        self.dial_at = now + AGAIN
+        why = "nothing answers there" if number == errno.ETIMEDOUT else os.strerror(number)
+        self.trouble.is_so(f"the peer at {self.peer_place} can't be reached: {why}")
+
+    @property
+    def peer_place(self):
+        return "{}:{}".format(*self.settings.peer)
 
     def go_on_dialling(self, writing, now):
-        wrong = errno.ETIMEDOUT if now - self.tcp_begun > PATIENCE else 0
+        wrong = errno.ETIMEDOUT if now - self.tcp_begun > self.connects_in else 0
         if self.tcp in writing:
             wrong = self.tcp.getsockopt(socket.SOL_SOCKET, socket.SO_ERROR)
         elif not wrong:
@@ -183,7 +206,7 @@ class Link:
         tcp, self.tcp = self.tcp, None
         if wrong:
             tcp.close()
-            self.dial_at = now + AGAIN
+            self.cannot_dial(wrong, now)
             return
         self.call = self.connection_of(tcp, self.settings.peer, now, is_server=False)
         if self.call is None:
@@ -290,15 +313,20 @@ class Link:
         connection.close()
         self.forget(connection)
 
+    def hang_up(self, connection):
+        """A call is over, and who asked for that has said why: the peer is called again."""
+        self.leave(connection)
+        self.dial_at = self.now() + AGAIN
+
     def drop(self, connection, why):
         """A connection that isn't attached is over."""
         self.leave(connection)
         if connection.is_server:
             self.counts.dropped_messages += 1
-            self.log.seldom("stranger", "warning", f"a connection from {connection.place} was dropped: {why}")
+            self.told_off(connection, "warning", f"a connection from {connection.address[0]} was dropped: {why}")
         else:
-            self.log.seldom("dialled", "debug", f"the peer at {connection.place}: {why}")
             self.dial_at = self.now() + AGAIN
+            self.trouble.is_so(f"the peer at {connection.place} can't be met: {why}")
 
     def refuse(self, connection, message, why, level="info"):
         """Who came is told why not, and its connection is over."""
@@ -306,8 +334,21 @@ class Link:
             connection.send(message)
         except Closed:
             pass
-        self.log.seldom("refused", level, f"{connection.place} isn't attached: {why}")
         self.leave(connection)
+        self.told_off(connection, level, f"{connection.address[0]} isn't attached: {why}")
+
+    def told_off(self, connection, level, text):
+        self.refused.say(level, text, connection.address[0])
+        if level != "debug" and self.is_near(connection):
+            self.refusal = text, self.now()
+
+    @property
+    def error(self):
+        """Why there is no link, as far as this host knows."""
+        if self.connection is not None:
+            return None
+        text, at = self.refusal
+        return self.trouble.why or (text if self.now() - at < RECENT else None)
 
     def end(self):
         for one in [*self.unattached(), self.connection, self.tcp, self.listener]:

@@ -109,12 +109,13 @@ class Log:
     def error(self, text: str) -> None:
         self.say("error", text)
 
-    def seldom(self, kind: str, level: str, text: str) -> None:
-        """Says this at most once a second for its kind, with how many were not said."""
+    def seldom(self, kind: str, level: str, text: str) -> bool:
+        """Says this at most once a second for its kind, with how many were not said. Answers whether it was its turn."""
         now = time.monotonic()
         if now - self.seldom_at.get(kind, -1) < 1:
             self.unsaid[kind] = self.unsaid.get(kind, 0) + 1
-            return
+            return False
         more = self.unsaid.pop(kind, 0)
         self.seldom_at[kind] = now
         self.say(level, text + (f" (and {more} more of this kind)" if more else ""))
+        return True

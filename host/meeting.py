@@ -6,10 +6,16 @@ from host import messages
 from host.backoff import Backoff
 from host.connection import Closed
 from host.drift import Drift
-from host.live import ALONE, FILLING
+from host.link import AGAIN
+from host.live import ALONE, FILLING, LONG, PAIRED
 from host.log.kept import Unprepared
 from host.messages import GO_LIVE, HELLO, NO, NO_SESSION, OFFER, OVER, READY, RESUME, Malformed, fields
 from host.node import Refused
+from host.troubles import Trouble
+
+SAYS_AGAIN = 1.0  # seconds, within which a host that isn't attached says again what it is: it dials, and is dialled, a few times a second
+LEAST_SILENCE = 0.2  # seconds
+KEEP_ONE = "Cut one from the guest's network, keep the one that you trust, and restart the daemon of the other"
 
 
 class Meeting:
@@ -20,11 +26,13 @@ class Meeting:
         self.offered = {}  # by connection: the session's name, and who it was offered to
         self.drift = Drift(host.settings, host.log)
         self.protecting, self.standing_by = Backoff(), Backoff()  # how long after a failure the next standby is taken; is asked for
-        self.peer_role = None
+        self.peer_role, self.live_at = None, None  # what the peer said last that it is; when it said that it is live, if it is
+        self.said_role = None  # what this host said last that it is, as it called the peer
+        self.conflict = Trouble(host.log)
 
     def hello(self):
         host = self.host
-        session = host.session.hex() if host.session else None
+        self.said_role, session = host.role, host.session.hex() if host.session else None
         return messages.told(HELLO, NO_SESSION, version=messages.VERSION, name=host.settings.name, instance=host.instance,
                              role=host.role, life=host.life if host.role != "empty" else None, generation=host.generation,
                              session=session, full=host.full, committed=host.standby.committed if host.standby else None)
@@ -40,12 +48,14 @@ class Meeting:
                 self.declined(connection, fields(kind, body))
             else:
                 raise Malformed(f"a message of kind {kind} before an attachment")
-        elif self.host.live and not self.host.is_frozen:
-            raise Malformed("this host went live meanwhile")
+        elif self.host.role != self.said_role:
+            self.link.hang_up(connection)  # what is answered is of no use any more
+        elif self.host.role == "live":
+            self.answered_live(connection, kind, body, now)
         elif kind == NO:
-            self.no(connection, fields(kind, body))
+            self.no(connection, fields(kind, body), now)
         elif kind == OVER:
-            self.over(connection, fields(kind, body)["why"])
+            self.over(connection, fields(kind, body), now)
         elif kind == OFFER:
             self.take_offer(connection, session, fields(kind, body), now)
         elif kind == RESUME and self.host.standby and session == self.host.session:
@@ -63,11 +73,15 @@ class Meeting:
         host, live = self.host, self.host.live
         if hello["version"] != messages.VERSION:
             return self.refuse(connection, f"it speaks version {hello['version']} of the link, and this host {messages.VERSION}")
+        self.is_told(hello["role"], now)
         if live:
             live.heard_of(hello["name"], hello["instance"])
         if host.role != "live":
             host.kept.heard(hello)
             return self.refuse(connection, f"this host is {host.role}", "debug")
+        self.link.wait_for_calls(now)
+        if hello["role"] == "live":
+            return self.met_another_live(connection, hello)
         session = hello["session"]
         if session is not None and live.session is not None and session == live.session.hex():
             return self.resume(connection, hello, now)
@@ -87,7 +101,7 @@ class Meeting:
         for connection in [one for one, (_, standby, _) in self.offered.items() if standby[0] == name or not self.link.is_unattached(one)]:
             del self.offered[connection]
             if self.link.is_unattached(connection):
-                self.link.drop(connection, "it has come again since")
+                self.link.leave(connection)
 
     def leave_unfilled(self, hello, now):
         """A standby that has begun anew before all of the full checkpoint was sent to it holds nothing with which anybody could go live."""
@@ -119,14 +133,86 @@ class Meeting:
         connection.send(messages.told(OFFER, session, name=host.settings.name, instance=host.instance, life=host.life,
                                       generation=host.live.generation + 1, pages=pages, sectors=sectors))
 
+    # Two hosts that are live.
+
+    def met_another_live(self, connection, hello):
+        """Of one life the later generation goes on, and the other host is frozen. Of two lives neither gives way."""
+        host, name = self.host, hello["name"]
+        mine, other = host.generation, hello["generation"]
+        if host.live.is_stopped:
+            return self.refuse(connection, "this host is busy: a drain is under way", "debug")
+        if hello["life"] != host.life or other == mine:
+            why = "each with another guest" if hello["life"] != host.life else "each in one generation"
+            self.conflict.is_so(f"two hosts are live, this one and {name}, {why}: neither gives way by itself. {KEEP_ONE}", "error")
+            return self.refuse(connection, f"two hosts are live, {why}", "debug")
+        if other > mine:
+            self.give_way(f"{name} lives in generation {other} of this guest, and this host in {mine}")
+            return self.refuse(connection, "this host lives in an earlier generation, and is frozen", "debug")
+        why = f"this host lives in generation {mine} of this guest, and {name} in {other}"
+        self.conflict.is_so(f"two hosts are live: {why}, which has to give way", "error")
+        return self.over_for(connection, hello, f"it lives in generation {mine} of this guest, which is later")
+
+    def answered_live(self, connection, kind, body, now):
+        """What a live host's call is answered: it looks whether the peer is live too."""
+        self.link.hang_up(connection)
+        if kind not in (NO, OVER):
+            return
+        told = fields(kind, body)
+        role = "live" if kind == OVER else told["role"]
+        self.is_told(role, now)
+        if kind == OVER and not self.host.live.is_stopped:
+            self.give_way(f"{told['name']} is live too, and {told['why']}")
+        elif role == "live":
+            self.conflict.is_so(f"two hosts are live, this one and {told['name']}, which answers: {told['why']}. {KEEP_ONE}", "error")
+        else:
+            self.link.trouble.is_over(f"{told['name']} is reached, and is {role}")
+
+    def give_way(self, why):
+        self.conflict.is_so(f"two hosts are live: {why}. This host gives way", "error")
+        self.host.freeze()
+
+    def is_told(self, role, now):
+        """The peer says what it is."""
+        self.peer_role = role
+        if role == "live":
+            self.live_at = now
+        else:
+            self.live_at = None
+            self.conflict.is_over("one host is live, not two")
+
+    def hears_live(self, now):
+        """Whether the peer says over a link that works that it is live."""
+        link = self.host.link
+        if link.is_up:
+            return self.host.live is None and now - link.heard_at < self.silence
+        return self.live_at is not None and now - self.live_at < SAYS_AGAIN
+
+    def are_two_live(self, now):
+        return self.host.role == "live" and self.hears_live(now)
+
+    def role_of_peer(self, now):
+        """What it said last; the standby of a live host is that as long as it doesn't say otherwise."""
+        return "standby" if self.host.session and self.host.live and not self.are_two_live(now) else self.peer_role
+
+    @property
+    def silence(self):
+        """For how long a live host that is attached says nothing, at the most."""
+        settings = self.host.settings
+        return min(settings.link_ms / 2, LEAST_SILENCE + 2 * LONG * settings.epoch_ms)
+
+    def heard_live_at(self):
+        """When the peer said so last."""
+        link = self.host.link
+        return link.heard_at if link.is_up else self.live_at
+
     def stale(self, connection, hello):
         """A host comes with an attachment that isn't this one's. Where it has no full checkpoint it has nothing to lose."""
         host = self.host
         if not hello["full"]:
             return self.over_for(connection, hello, self.why_over(hello))
         if hello["life"] == host.life and hello["generation"] > host.generation:
-            self.log.seldom("stale", "error", f"{hello['name']} holds generation {hello['generation']} of this guest, and this host lives "
-                                              f"in {host.generation}: it may be this host that is stale")
+            self.link.refused.say("error", f"{hello['name']} holds generation {hello['generation']} of this guest, and this host lives "
+                                           f"in {host.generation}: it may be this host that is stale", "stale")
             return self.refuse(connection, "this host lives in an earlier generation")
         if hello["life"] != host.life:
             return self.refuse(connection, "this host lives another life: what is held there is another guest")
@@ -188,7 +274,7 @@ class Meeting:
         """The host that was offered an attachment can't be a standby."""
         del self.offered[connection]
         self.link.leave(connection)
-        self.log.seldom("declined", "warning", f"{told['name']} can't be a standby: {told['why']}")
+        self.link.told_off(connection, "warning", f"{told['name']} can't be a standby: {told['why']}")
 
     # Both sides, once they are joined.
 
@@ -202,12 +288,17 @@ class Meeting:
 
     # The side of a host that isn't live.
 
-    def over(self, connection, why):
-        self.link.drop(connection, why)
-        self.peer_role = "live"
-        if self.host.role in ("standby", "frozen"):
-            self.give_up(f"the peer is live, and {why}")
-        self.link.dial_at = self.link.now()
+    def over(self, connection, told, now):
+        self.link.leave(connection)
+        self.is_told("live", now)
+        host, why = self.host, f"{told['name']} is live, and {told['why']}"
+        if host.role == "frozen" and host.live.mode != PAIRED:
+            self.link.dial_at = now + AGAIN
+            return self.link.trouble.is_so(f"{why}; but the guest that is frozen here went on without a standby, so clients may have been "
+                                           "told what isn't known there: it is kept until this daemon is started again")
+        if host.role in ("standby", "frozen"):
+            self.give_up(why)
+        self.link.dial_at = now
 
     def give_up(self, why):
         """What this host holds is of no use to anybody."""
@@ -217,15 +308,19 @@ class Meeting:
             self.log.warning(f"{why}: this host, which has no full checkpoint, begins anew")
         self.host.become_empty()
 
-    def no(self, connection, told):
-        self.peer_role = told["role"]
-        self.link.drop(connection, told["why"])
+    def no(self, connection, told, now):
+        self.is_told(told["role"], now)
+        self.link.hang_up(connection)
+        if told["role"] == "live":
+            self.link.trouble.is_so(f"{told['name']} doesn't let this host in: {told['why']}")
+        else:
+            self.link.trouble.is_so(f"{told['name']} is {told['role']}, and nobody lives there", "info")
         if self.host.role == "standby" and not self.host.full and told["role"] in ("empty", "standby"):
             self.give_up(f"{told['name']}, which had the guest, is {told['role']}")
 
     def turned_away(self, told):
         """The live host has thought better of the attachment that it offered."""
-        self.peer_role = told["role"]
+        self.is_told(told["role"], self.link.now())
         self.link.close()
         self.give_up(f"{told['name']} doesn't take this host as its standby: {told['why']}")
 
@@ -250,7 +345,7 @@ class Meeting:
     def decline(self, connection, session, why, now):
         """This host can't be a standby: it says so, and asks again later, before the live host has done anything for it."""
         seconds = self.standing_by.failed(now)
-        self.log.error(f"this host can't be a standby: {why}; it asks again in {seconds:.0f} s")
+        self.link.trouble.is_so(f"this host can't be a standby: {why}; it asks again, each time later", "error")
         try:
             connection.send(messages.told(NO, session, why=why[:200], role=self.host.role, name=self.host.settings.name))
         except Closed:
@@ -266,7 +361,8 @@ class Meeting:
         self.compare(now)
 
     def met(self, connection, session, told, now):
-        self.peer_role, self.host.peer = "live", (told["name"], told["instance"])
+        self.peer_role, self.live_at, self.host.peer = "live", None, (told["name"], told["instance"])
+        self.conflict.is_over("one host is live, not two")
         self.link.attach(connection, session, now)
 
 

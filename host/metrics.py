@@ -1,5 +1,6 @@
 """What is counted, and its text in Prometheus' form."""
 import resource
+import time
 
 BUCKETS = (0.0005, 0.001, 0.002, 0.005, 0.01, 0.025, 0.05, 0.1, 0.25, 1.0)  # seconds from a cut to its acknowledgement
 
@@ -35,6 +36,8 @@ def text(host):
          *((f'{{role="{role}"}}', int(host.role == role)) for role in ("empty", "standby", "live", "frozen")))
     one("remus_generation", "gauge", "The guest's generation.", host.generation)
     one("remus_link_up", "gauge", "1 while the peer is attached.", int(host.link.is_up))
+    one("remus_two_live", "gauge", "1 while this host is live and the peer says that it is, too.",
+        int(host.meeting.are_two_live(time.monotonic())))
     one("remus_full", "gauge", "1 where the guest could go on here.", int(host.full))
     one("remus_epochs_total", "counter", "Epochs that ended in a checkpoint.", counts.epochs)
     one("remus_checkpoint_bytes_total", "counter", "Bytes of checkpoints that were cut or committed here: of a full one once it is fetched.",

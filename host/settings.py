@@ -9,8 +9,8 @@ from collections.abc import Callable
 from dataclasses import dataclass, field
 from pathlib import Path
 
+from host import handshakes
 from host.boot import BadGuest, boot_of
-from host.connection import contexts
 
 ROOT = Path(__file__).resolve().parents[1]
 PROGRAM = ROOT / "remus"
@@ -277,10 +277,7 @@ def keys_together(settings):
     """What is wrong with keys and certificates that can be read."""
     paths = settings.key, settings.certificate, settings.peer_certificate
     if all(path is not None and os.access(path, os.R_OK) for path in paths):
-        try:
-            contexts(settings)
-        except (OSError, ValueError):
-            yield "key", "key and certificate don't fit each other, or one of them or peer_certificate isn't PEM"
+        yield from handshakes.mistakes(settings)
 
 
 def version():

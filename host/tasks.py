@@ -1,4 +1,5 @@
-"""What takes more than a turn of the loop: a drain, and a snapshot. One may be under way at a time."""
+"""What takes more than a turn of the loop: a drain, a snapshot, and a promotion where the peer seems to be live. One may be under way at a
+time."""
 from collections.abc import Callable
 from typing import Any
 
@@ -10,6 +11,9 @@ from host.snapshot import Header, check_replaced
 
 Answer = dict[str, Any]
 Tell = Callable[[Answer], None]
+
+ON_ITS_WAY = 0.05  # seconds, within which what comes from the peer may have been said before
+LOOKS = 0.01  # seconds, from one look at what the peer says to the next
 
 
 class Drain:
@@ -106,6 +110,34 @@ class Drain:
             self.keep_frozen("Internal", why)
         else:
             self.go_on("Internal", why, self.host.link.now())
+
+
+class Promotion:
+    """It is done once the peer says no more that it is live, over a link that works, and refused where it does. What was on its way as it
+    was asked for says nothing: who asks may have ended the peer just before. `does` does it, and answers what is to be answered."""
+
+    name = "a promotion is under way"
+
+    def __init__(self, host: Any, does: Callable[[], Answer], answer: Tell, now: float) -> None:
+        self.host, self.does, self.answer, self.begun = host, does, answer, now
+
+    def due(self, now: float) -> float:
+        return now + LOOKS
+
+    def turn(self, now: float) -> None:
+        host, meeting = self.host, self.host.meeting
+        if not meeting.hears_live(now):
+            host.task = None
+            self.answer(self.does())
+        elif meeting.heard_live_at() > self.begun + ON_ITS_WAY:
+            host.task = None
+            self.answer(refusal("PeerIsLive", "the peer says over the link that it is live: drain it or stop it first; 'force' promotes "
+                                              "this host all the same, and then two hosts are live"))
+
+    def fail(self, why: str) -> None:
+        """Something went wrong that nobody expected."""
+        self.host.task = None
+        self.answer(refusal("Internal", why))
 
 
 class Save:

@@ -1,5 +1,6 @@
 """What the control socket is asked to do: docs/OPERATE.md has the table of verbs, remus-host(8) the fields of a status."""
 import time
+from collections.abc import Callable
 from typing import Any
 
 from host import metrics, requests
@@ -8,7 +9,7 @@ from host.guarded import guarded
 from host.live import ALONE, PAIRED
 from host.node import Refused
 from host.snapshot import NoBoot, NotASnapshot, boot_over, load
-from host.tasks import Answer, Drain, Save, Tell, refusal
+from host.tasks import Answer, Drain, Promotion, Save, Tell, refusal
 
 
 class Once:
@@ -70,25 +71,43 @@ class Verbs:
         return {"ok": True, "text": metrics.text(self.host)}
 
     def promote(self, answer: Tell, boot: bool = False, new: bool = False, source: str | None = None, disk: str | None = None,
-                bare: bool = False, without_peer: bool = False) -> Answer:
+                bare: bool = False, without_peer: bool = False, force: bool = False) -> Answer | None:
         host, now = self.host, time.monotonic()
         if host.role == "live" and not (source or disk or new):
             return self.lives("this host is live already")
-        if boot or source is not None:
-            return self.begin(new, source, disk, bare)
-        if host.role == "frozen":
-            host.thaw(now)
-        elif not host.full:
+        begins = boot or source is not None
+
+        def why_not() -> Answer | None:
+            return self.why_not_begun(new, source) if begins else self.why_no_checkpoint(without_peer)
+
+        def does() -> Answer:
+            return why_not() or (self.begin(source, disk, bare) if begins else self.go_on())
+
+        if force or not host.meeting.hears_live(now) or why_not() is not None:
+            return does()
+        host.task = Promotion(host, lambda: self.promoted(does), answer, now)
+        return None
+
+    def promoted(self, does: Callable[[], Answer]) -> Answer:
+        """The answer of a promotion that had to wait."""
+        try:
+            return does()
+        except Refused as refused:
+            return refusal("Node", f"the node refused: {refused}")
+
+    def why_no_checkpoint(self, without_peer: bool) -> Answer | None:
+        """The refusal of a host that isn't frozen where it has no full checkpoint with which it may go on."""
+        host = self.host
+        if host.live is not None:
+            return None
+        if not host.full:
             refused = f": the log is refused, {host.kept.refused}" if host.kept.refused else ""
             return refusal("NoCheckpoint", f"no full checkpoint of the guest is here{refused}")
-        elif why := host.kept.refuses(without_peer):
-            return refusal(*why)
-        else:
-            host.go_live(now)
-        return self.lives("this host is live")
+        why = host.kept.refuses(without_peer)
+        return refusal(*why) if why else None
 
-    def begin(self, new: bool, source: str | None, disk: str | None, bare: bool) -> Answer:
-        """A new life, booted, over a snapshot's disk where one is given, or from a snapshot."""
+    def why_not_begun(self, new: bool, source: str | None) -> Answer | None:
+        """The refusal of a new life."""
         host = self.host
         if host.role != "empty":
             return refusal("NotEmpty", f"this host is {host.role}: it would lose what it holds")
@@ -96,6 +115,21 @@ class Verbs:
             return refusal("File", "no guest is configured: give the key 'guest'")
         if source is None and host.state.booted_before and not new:
             return refusal("BootedBefore", "a guest was booted or held here before; 'new' boots another one all the same")
+        return None
+
+    def go_on(self) -> Answer:
+        """A frozen host goes on, or a standby goes live; it may have been told so meanwhile."""
+        host, now = self.host, time.monotonic()
+        if host.role == "live":
+            return self.lives("this host is live already")
+        if host.role == "frozen":
+            host.thaw(now)
+        else:
+            host.go_live(now)
+        return self.lives("this host is live")
+
+    def begin(self, source: str | None, disk: str | None, bare: bool) -> Answer:
+        """A new life, booted, over a snapshot's disk where one is given, or from a snapshot."""
         try:
             return self.lives(self.begun(source, disk, bare))
         except BadGuest as bad:
@@ -105,7 +139,7 @@ class Verbs:
         except NotASnapshot as error:
             return refusal("File", f"{source or disk}: {error}")
         except OSError as error:
-            return refusal("File", f"{error.filename or source or disk or host.settings.state}: {error.strerror or error}")
+            return refusal("File", f"{error.filename or source or disk or self.host.settings.state}: {error.strerror or error}")
 
     def begun(self, source: str | None, disk: str | None, bare: bool) -> str:
         """What was done, as a sentence. Raises OSError, Refused, NotASnapshot, BadGuest, NoBoot."""
@@ -178,10 +212,11 @@ def status(host):
         "cut": live.cut if live else None, "acknowledged": live.acked if live else None,
         "committed": standby.committed if standby else None, "pending": len(live.pending) if live else 0,
         "unacknowledged_ms": since(live.acked_at) if live and live.pending else 0, "silent_ms": since(link.heard_at),
-        "waits": live is not None and live.waits, "link": "up" if link.is_up else "down",
+        "waits": live is not None and live.waits, "link": "up" if link.is_up else "down", "link_error": link.error,
+        "two_live": host.meeting.are_two_live(now),
         "session": holder.session.hex() if holder and holder.session else None,
         "peer": {"address": "{}:{}".format(*host.settings.peer) if host.settings.peer else None, "name": peer_name,
-                 "instance": peer_instance, "role": "standby" if live and live.session else host.meeting.peer_role,
+                 "instance": peer_instance, "role": host.meeting.role_of_peer(now),
                  "successor": live.successor if live else None},
         "steps": live.steps if live else standby.steps() if standby else 0,
         "late_ms": round(live.late * 1000) if live else 0, "held": live.held if live else 0,
