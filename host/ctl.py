@@ -6,6 +6,7 @@ import socket
 from typing import Any
 
 from host import managed, settings
+from host.logs import one_line
 from host.out import complain, failed, put
 
 DONE, REFUSED, BAD, NO_ANSWER, UNWRITTEN = range(5)
@@ -150,7 +151,7 @@ def run(plan: argparse.Namespace) -> int:
     except KeyboardInterrupt:
         return failed("interrupted before an answer came: what was asked may be done all the same", NO_ANSWER)
     if not plan.json and not answer["ok"]:
-        complain(f"refused, {answer['refused']}: {answer['why']}")
+        complain(one_line(f"refused, {answer['refused']}: {answer['why']}"))
         return REFUSED
     try:
         put(json.dumps(answer) + "\n" if plan.json else said(plan.verb, answer))
@@ -167,7 +168,7 @@ def said(verb: str, answer: dict[str, Any]) -> str:
     if verb == "metrics":
         return answer.get("text", "")
     if verb != "status":
-        return answer.get("did", "done") + "\n"
+        return one_line(str(answer.get("did", "done"))) + "\n"
     lines = []
     for name, value in answer.items():
         if name in PARTS and value is not None:
@@ -176,7 +177,7 @@ def said(verb: str, answer: dict[str, Any]) -> str:
             lines += [f"drift {key}: {shown(here)} here, {shown(there)} at the peer" for key, (here, there) in value.items()]
         elif name not in ("ok", "did"):
             lines.append(f"{name}: {shown(value)}")
-    return "".join(line + "\n" for line in lines)
+    return "".join(one_line(line) + "\n" for line in lines)
 
 
 def shown(value: object) -> object:

@@ -69,6 +69,11 @@ class Lines:
             self.changed.wait_for(lambda: not self.waiting and not self.lost and not self.is_writing, patience)
 
 
+def one_line(text: str) -> str:
+    """With what can't be printed, above all the ends of lines, spelled out."""
+    return text if text.isprintable() else "".join(each if each.isprintable() else ascii(each)[1:-1] for each in text)
+
+
 class Log:
     """`form` is text, json, or journal, where journald knows the time and wants the level's number."""
 
@@ -90,6 +95,8 @@ class Log:
             self.out.write(self.line(level, text))
 
     def line(self, level: str, text: str) -> str:
+        """One line, whatever paths and names stand in it."""
+        text = one_line(text)
         if self.form == "journal":
             return f"<{LEVELS[level]}>{text}\n"
         now = datetime.datetime.now(datetime.timezone.utc).isoformat(timespec="milliseconds").replace("+00:00", "Z")
