@@ -2,11 +2,13 @@
 SIGUSR2 ask for nothing here."""
 import signal
 import socket
+import time
 from types import FrameType
 
 from host.live import PAIRED
 from host.tasks import Drain
 
+ONE = 0.3  # seconds: what comes within them is one signal, which timeout(1) and others send to a process and to its group
 ENDS, IDLE = (signal.SIGINT, signal.SIGTERM), (signal.SIGHUP, signal.SIGUSR1, signal.SIGUSR2)
 
 
@@ -18,7 +20,7 @@ class Signals:
     """`host` is the daemon. A signal ends its wait, and is heard by its next turn; `came` is what the wait looks at."""
 
     def __init__(self, host: "Daemon") -> None:
-        self.host, self.told = host, 0  # so often it was told to end
+        self.host, self.told_at, self.is_left = host, None, False  # when it was told to end; whether a second signal came
         self.came, self.wakes = socket.socketpair()
         for end in (self.came, self.wakes):
             end.setblocking(False)
@@ -31,8 +33,11 @@ class Signals:
             signal.signal(number, lambda *_: None)
 
     def end(self, number: int, frame: FrameType | None) -> None:
-        self.told += 1
-        if self.told == 2:
+        now = time.monotonic()
+        if self.told_at is None:
+            self.told_at = now
+        elif now - self.told_at > ONE and not self.is_left:
+            self.is_left = True
             raise AtOnce
 
     def hear(self, now: float) -> None:
@@ -42,8 +47,8 @@ class Signals:
             if number in ENDS:
                 self.hand_on(name, now)
             else:
-                self.host.log.warning(f"{name}: there is nothing to reload, and this host goes on as it was; for another configuration end "
-                                      "this daemon, and start it again")
+                self.host.log.warning(f"{name}: there is nothing to reload, and this host goes on as it was: key and certificates are read "
+                                      "for each new link, and another configuration takes a new start of the daemon")
 
     def hand_on(self, name: str, now: float) -> None:
         host = self.host
