@@ -148,6 +148,11 @@ def by_hand(row, times: int) -> None:
         row.check(clients)
         row.expect(bed.pair()[0] == standby, "another host is live")
         goes_on(row, life, standby, begin)
+        before = {host: bed.status(host)["instance"] for host in network.NUMBERS}
+        bed.on(live, "crm_resource", "--refresh", "--resource", "pair")
+        time.sleep(5)
+        row.expect(before == {host: bed.status(host).get("instance") for host in network.NUMBERS}, "a refresh restarted a daemon")
+        row.expect(bed.pair()[0] == standby, "after a refresh another host is live")
 
 
 def snapshot(row, times: int) -> None:
