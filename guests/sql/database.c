@@ -16,10 +16,16 @@ static uint32_t page = 4096, frames;
 
 static uint32_t most_frames(void) { return (uint32_t)(vfs_room(LOG_FILE) / (page + 24)); }
 
-/* What a client may not: make the database larger than its area, keep it for itself for good, or have SQLite's LIKE back, which nothing
+/* There is one database, and whoever attached its file or its journal's would wait for himself, or write into the journal. SQLite itself
+   attaches files without a name, for VACUUM. */
+static int is_in_memory(const char *file) { return file != NULL && (file[0] == '\0' || strcmp(file, ":memory:") == 0); }
+
+/* What a client may not: attach files, make the database larger than its area, keep it for itself for good, or have SQLite's LIKE back, which nothing
    can stop. */
 static int is_allowed(void *data, int action, const char *name, const char *value, const char *database, const char *trigger) {
     (void)data, (void)database, (void)trigger;
+    if (action == SQLITE_ATTACH && !is_in_memory(name))
+        return SQLITE_DENY;
     if (action != SQLITE_PRAGMA || value == NULL)
         return SQLITE_OK;
     int is_refused = sqlite3_stricmp(name, "max_page_count") == 0 || sqlite3_stricmp(name, "case_sensitive_like") == 0

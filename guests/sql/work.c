@@ -26,7 +26,16 @@ static const char *code_of_words(const char *why) {
         {"ambiguous column", "42702"},   {"already exists", "42P07"},    {"no such index", "42704"},  {"no such savepoint", "3B001"},
         {"has no column named", "42703"}, {"syntax error", "42601"},     {"incomplete input", "42601"}, {"unrecognized token", "42601"},
         {"parser stack", "54001"},       {"wrong number of arg", "42883"}, {"within a transaction", "25001"}, {"overflow", "22003"},
-        {"too large", "54001"},          {"too many", "54000"},
+        {"too large", "54001"},          {"too many", "54000"},          {"too complex", "54001"},
+        {"malformed JSON", "22P02"},     {"JSON path error", "42601"},   {"JSON cannot hold BLOB", "22023"},
+        {"values were supplied", "42601"}, {"values for ", "42601"},     {"number of result columns", "42601"},
+        {"number of terms", "42601"},    {"columns assigned", "42601"},  {"sub-select returns", "42601"}, {"row value", "42601"},
+        {"misuse of aggregate", "42803"}, {"HAVING clause", "42803"},    {"misuse of window", "42P20"},  {"term out of range", "42P10"},
+        {"duplicate column", "42701"},   {"duplicate WITH", "42712"},    {"no such collation", "42704"}, {"no such trigger", "42704"},
+        {"no such database", "3D000"},   {"no such module", "42704"},    {"foreign key mismatch", "42830"},
+        {"one primary key", "42P16"},    {"a view", "42809"},            {"use DROP ", "42809"},         {"may not be dropped", "42501"},
+        {"may not be altered", "42501"}, {"may not be modified", "42501"}, {"reserved for internal", "42939"},
+        {"ESCAPE expression", "22019"},  {"ON CONFLICT clause", "42P10"}, {"circular reference", "42P19"},
     };
     for (unsigned i = 0; i < sizeof codes / sizeof codes[0]; i++)
         if (strstr(why, codes[i][0]) != NULL)
@@ -80,12 +89,14 @@ void stop_failure(const struct session *session, struct failure *failure) {
     set_failure(failure, whys[session->stop][0], whys[session->stop][1]);
 }
 
+#define NOT_ALLOWED "not allowed here: no file can be attached, and some settings of the database's can't be set"
+
 static enum outcome fails(struct session *session, int said, struct failure *failure) {
     const char *why = sqlite3_errmsg(session->database);
     if ((said & 0xff) == SQLITE_INTERRUPT)
         stop_failure(session, failure);
     else
-        set_failure(failure, code_of(said, why), why);
+        set_failure(failure, code_of(said, why), (said & 0xff) == SQLITE_AUTH ? NOT_ALLOWED : why);
     return FAILED;
 }
 

@@ -20,6 +20,14 @@ REFUSED = [
     ("SELECT * FROM nowhere", "42P01"), ("SELECT nocolumn FROM t", "42703"), ("SELEC 1", "42601"), ("SELECT nofunction(1)", "42883"),
     ("CREATE TABLE t(a)", "42P07"), ("INSERT INTO t VALUES(1, 'x')", "23505"), ("INSERT INTO t VALUES(9, NULL)", "23502"),
     ("INSERT INTO t VALUES(9, 'checked')", "23514"), ("INSERT INTO u VALUES(77)", "23503"), ("SELECT abs(-9223372036854775808)", "22003"),
+    ("SELECT json('{')", "22P02"), ("SELECT * FROM json_each('{')", "22P02"), ("SELECT json_extract('{}', 'x')", "42601"),
+    ("INSERT INTO t VALUES(1, 2, 3)", "42601"), ("INSERT INTO t(a, b) VALUES(9)", "42601"), ("SELECT 1 UNION SELECT 1, 2", "42601"),
+    ("VALUES(1), (1, 2)", "42601"), ("SELECT (SELECT 1, 2)", "42601"), ("UPDATE t SET (a, b) = (1)", "42601"),
+    ("SELECT count(count(a)) FROM t", "42803"), ("SELECT a FROM t ORDER BY 5", "42P10"), ("CREATE TABLE w(a, a)", "42701"),
+    ("DETACH nowhere", "3D000"), ("INSERT INTO t VALUES(9, 'x') ON CONFLICT(b) DO NOTHING", "42P10"),
+    ("DROP TABLE sqlite_schema", "42501"), ("SELECT 'a' LIKE 'b' ESCAPE 'cc'", "22019"),
+    ("ATTACH '/db' AS other", "42501"), ("ATTACH '/db-journal' AS other", "42501"), ("ATTACH '/db-wal' AS other", "42501"),
+    ("ATTACH '/d' || 'b' AS other", "42501"), ("VACUUM INTO '/db-journal'", "42501"), ("ATTACH '/other' AS other", "42501"),
     ("SHOW nosetting", "42704"), ("INSERT INTO t VALUES('a', 'b')", "42804"), ("SELECT zeroblob(2000000)", "54000"),
     ("WITH RECURSIVE c(x) AS (VALUES(1) UNION ALL SELECT x+1 FROM c WHERE x<300000) SELECT x FROM c", "54000"),
 ]
@@ -67,6 +75,10 @@ def values(client: Postgres) -> Iterator[tuple[str, str | None]]:
     [empty] = client.ask("SELECT * FROM mixed")
     client.ask("INSERT INTO mixed VALUES(1, 1, 1, 1, x'aa'), (2.5, 2, 2.5, 2.5, x'bb'), (NULL, NULL, NULL, NULL, NULL)")
     [result] = client.ask("SELECT * FROM mixed")
+    [attached] = client.ask("ATTACH ':memory:' AS other")
+    client.ask("CREATE TABLE other.t(a)")
+    client.ask("DETACH other")
+    yield "what is attached in memory, and VACUUM", differs([attached.tag, client.ask("VACUUM")[0].tag], ["ATTACH", "VACUUM"])
     yield "types of columns", differs([empty.types, result.types], [[TEXT, INT8, FLOAT8, FLOAT8, BYTEA],
                                                                     [FLOAT8, INT8, FLOAT8, FLOAT8, BYTEA]])
 
