@@ -5,4 +5,7 @@
 /* Listens for both protocols. */
 void connections_start(void);
 
+/* Gives places that are free to connections that wait for one. */
+void connections_poll(void);
+
 #endif

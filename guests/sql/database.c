@@ -20,8 +20,8 @@ static uint32_t most_frames(void) { return (uint32_t)(vfs_room(LOG_FILE) / (page
    attaches files without a name, for VACUUM. */
 static int is_in_memory(const char *file) { return file != NULL && (file[0] == '\0' || strcmp(file, ":memory:") == 0); }
 
-/* What a client may not: attach files, make the database larger than its area, keep it for itself for good, or have SQLite's LIKE back, which nothing
-   can stop. */
+/* What a client may not: attach files, make the database larger than its area, keep it for itself for good, or have SQLite's LIKE back,
+   which nothing can stop. */
 static int is_allowed(void *data, int action, const char *name, const char *value, const char *database, const char *trigger) {
     (void)data, (void)database, (void)trigger;
     if (action == SQLITE_ATTACH && !is_in_memory(name))

@@ -18,6 +18,7 @@ static inline void guest_listen(void) {
 }
 
 static inline void guest_poll(void) {
+    connections_poll();
     sessions_poll();
     door_poll();
 }

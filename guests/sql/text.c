@@ -83,9 +83,14 @@ void text_shift(struct text *text, uint32_t count) {
     text->length -= count;
 }
 
+/* By new memory: SQLite's own allocator gives nothing back where a block becomes smaller. */
 void text_shrink(struct text *text) {
-    if (text->length == 0 && text->room > KEPT)
-        resize(text, 2 * SPARE);
+    char *bytes = text->length == 0 && text->room > KEPT ? sqlite3_malloc64(2 * SPARE) : NULL;
+    if (bytes == NULL)
+        return;
+    sqlite3_free(text->bytes);
+    text->bytes = bytes;
+    text->room = 2 * SPARE;
 }
 
 void text_drop(struct text *text) {

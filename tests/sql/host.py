@@ -97,9 +97,10 @@ def own(room: Path, amalgamation: Path) -> Built:
 class Served:
     """`served`, running over a file that is the disk."""
 
-    def __init__(self, built: Built, disk: Path, password: str = "", refused: int = 0) -> None:
+    def __init__(self, built: Built, disk: Path, password: str = "", refused: int = 0, memory: int = 0) -> None:
         program = built.room / f"served_{password}".rstrip("_")
-        self.process = subprocess.Popen([program, disk, str(refused)], stdin=subprocess.PIPE, stdout=subprocess.PIPE, text=True)
+        self.process = subprocess.Popen([program, disk, str(refused), str(memory)], stdin=subprocess.PIPE, stdout=subprocess.PIPE,
+                                        text=True)
         ports = dict(map(int, self.process.stdout.readline().split()) for _ in range(2))
         self.postgres, self.http = ports[5432], ports[80]
 

@@ -1,6 +1,8 @@
 /* The sessions of guests/sql on this machine, over its own sockets in place of lwIP, and its own SQLite:
 
-     served FILE [REFUSED]    the database's disk is FILE. Of REFUSED allocations in a row, each 97th is refused: there is no memory
+     served FILE [REFUSED [BYTES]]    the database's disk is FILE. Of REFUSED allocations in a row, each 97th is refused: there is no
+                                      memory. Where BYTES isn't 0 there are no more in all, and each piece has a power of two of them, as
+                                      the guest has its memory
 
    It prints the ports of PostgreSQL's protocol and of HTTP, which it serves on this machine's loopback until its input ends. */
 #include <arpa/inet.h>
@@ -28,6 +30,7 @@
 
 static struct session *sessions[MOST];
 static unsigned refused;
+static size_t most, taken; /* bytes of memory; of `most` 0: as many as there are */
 
 /* Memory of SQLite's, some of which is refused. */
 
@@ -36,24 +39,42 @@ static int is_refused(void) {
     return refused > 0 && ++turn % EVERY == 0 && refused-- > 0;
 }
 
+static int size_of(void *memory) { return memory == NULL ? 0 : (int)((uint64_t *)memory)[-2]; }
+
+static size_t size_for(int count) {
+    size_t size = 32;
+    while (size < (size_t)count)
+        size *= 2;
+    return most > 0 ? size : (size_t)count;
+}
+
 static void *get(int count) {
-    uint64_t *memory = is_refused() ? NULL : malloc((size_t)count + 16);
+    size_t size = size_for(count);
+    uint64_t *memory = is_refused() || (most > 0 && taken + size > most) ? NULL : malloc(size + 16);
     if (memory == NULL)
         return NULL;
-    memory[0] = (uint64_t)count;
+    taken += size;
+    memory[0] = size;
     return memory + 2;
 }
 
-static void give(void *memory) { free(memory == NULL ? NULL : (uint64_t *)memory - 2); }
+static void give(void *memory) {
+    if (memory == NULL)
+        return;
+    taken -= (size_t)size_of(memory);
+    free((uint64_t *)memory - 2);
+}
 
-static int size_of(void *memory) { return memory == NULL ? 0 : (int)((uint64_t *)memory)[-2]; }
-
+/* A piece that becomes smaller stays as it is. */
 static void *change(void *memory, int count) {
-    uint64_t *more = is_refused() ? NULL : realloc((uint64_t *)memory - 2, (size_t)count + 16);
+    if (most > 0 && count <= size_of(memory))
+        return memory;
+    void *more = get(count);
     if (more == NULL)
         return NULL;
-    more[0] = (uint64_t)count;
-    return more + 2;
+    memcpy(more, memory, (size_t)(size_of(memory) < count ? size_of(memory) : count));
+    give(memory);
+    return more;
 }
 
 static int rounded(int count) { return (count + 7) & ~7; }
@@ -178,6 +199,7 @@ int main(int count, char **words) {
     int listeners[2] = {listening(&postgres), listening(&http)};
     fflush(stdout);
     refused = count > 2 ? (unsigned)atoi(words[2]) : 0;
+    most = count > 3 ? (size_t)atoi(words[3]) : 0;
     serve(listeners);
     return 0;
 }

@@ -297,6 +297,17 @@ def want_of_memory(built: Built, room: Path) -> Iterator[tuple[str, str | None]]
                                                        f"{told} were told, {whole}")
 
 
+def places(built: Built, room: Path) -> Iterator[tuple[str, str | None]]:
+    """All places are taken by clients that have asked much: what it took is there for the next."""
+    with Served(built, room / "places", memory=32 << 20) as served:
+        clients, outcomes = [], []
+        for _ in range(60):
+            clients.append(Postgres(served.postgres))
+            outcomes.append(code_of(lambda: clients[-1].ask(f"SELECT '{'x' * 200_000}' AS a")))
+        outcomes += [code_of(lambda: one.ask(f"SELECT '{'x' * 200_000}' AS a")) for one in clients]
+        yield "60 clients that have asked much", differs(outcomes, ["none"] * 120)
+
+
 def tests(built: Built) -> Iterator[tuple[str, str | None]]:
     with tempfile.TemporaryDirectory() as folder:
         room = Path(folder)
@@ -317,3 +328,4 @@ def tests(built: Built) -> Iterator[tuple[str, str | None]]:
             client.ask(START)
             yield from waiting(served, client, is_logged=False)
         yield from want_of_memory(built, room)
+        yield from places(built, room)

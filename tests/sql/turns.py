@@ -217,7 +217,7 @@ def functions(served: Served) -> Iterator[tuple[str, str | None]]:
     yield "1500 calls of the guest's own functions", wrong
     refused = [code_of(lambda sql=sql: client.ask(sql)) for sql in ("SELECT 'a' LIKE 'b' ESCAPE 'xy'", "SELECT 'a' LIKE 'b' ESCAPE ''",
                                                                     "SELECT 'a' LIKE hex(zeroblob(30000))")]
-    yield "and refuse as they do", differs(refused, ["42000"] * 3)
+    yield "and refuse as they do", differs(refused, ["22019", "22019", "54001"])
     client.close()
 
 
