@@ -97,6 +97,7 @@ class Daemon:
         self.link.close()
         self.node.kill()
         if self.standby is not None:
+            self.standby.leave()
             self.kept.over()
         self.live = self.standby = self.life = self.shape = None
         self.instance = secrets.token_hex(8)
@@ -135,6 +136,7 @@ class Daemon:
 
     def go_live(self, now: float, word: bytes | None = None) -> None:
         """A standby with a full checkpoint goes on as the guest; who told it so gets this word. Raises Refused."""
+        self.standby.catch_up()
         answer = self.node.ask("golive")
         self.standby = None
         if word is not None:
@@ -174,6 +176,7 @@ class Daemon:
             self.kept.has_failed(now)
         elif self.standby is not None and self.standby.logged is not None:
             self.standby.synced(now)
+            self.kept.look(now)
 
     # What the link tells.
 
@@ -189,12 +192,23 @@ class Daemon:
             except Broken as broken:
                 self.log.seldom("broken", "error", str(broken))
                 raise messages.Malformed("what came can't be taken") from None
+        elif self.live and kind == messages.LONG:
+            self.live.turn_wanted = True
+        elif self.standby and kind == messages.TURN:
+            self.turned(*messages.turned(body), now)
         elif self.standby and kind == messages.GO_LIVE:
             self.told_to_go_live(*messages.numbers(body), now)
         elif self.standby and not self.standby.is_full and kind == messages.NO:
             self.meeting.turned_away(messages.fields(kind, body))
         else:
             raise messages.Malformed(f"a message of kind {kind} to a host that is {self.role}")
+
+    def turned(self, generation: int, number: int, later: int, now: float) -> None:
+        try:
+            self.standby.turned(generation, number, later, now)
+        except Broken as broken:
+            self.log.seldom("broken", "error", str(broken))
+            raise messages.Malformed("a turn that can't be taken") from None
 
     def told_to_go_live(self, generation: int, number: int, now: float) -> None:
         """The live host has drained and stopped, and says so; it gives the guest up once it hears that this one is live."""

@@ -10,7 +10,7 @@ from host.logs import Log
 from host.settings import Settings
 
 Value = str | int | float | None
-KEYS = ("guest", "steps_per_ms", "epoch_ms", "guest_address")
+KEYS = ("guest", "steps_per_ms", "epoch_ms", "guest_address", "log")
 MAY_BE_LEFT_OUT = ("guest",)  # which only who boots it needs
 
 
@@ -38,7 +38,7 @@ class Drift:
     def own(self) -> dict[str, Value]:
         settings, epoch = self.settings, round(self.settings.epoch_ms * 1000, 3)
         return {"guest": self.image(), "steps_per_ms": settings.steps_per_ms, "epoch_ms": int(epoch) if epoch.is_integer() else epoch,
-                "guest_address": settings.guest_address}
+                "guest_address": settings.guest_address, "log": settings.log}
 
     def message(self, session: bytes) -> bytes:
         """What the peer is told. It is a ping with a body, which a daemon that doesn't know it takes for a ping."""

@@ -2,7 +2,7 @@
 from binascii import unhexlify
 from collections import OrderedDict
 
-from host import messages
+from host import messages, turning
 from host.dead import Watch, told
 from host.looks import Looks
 from host.node import LOOK, PIECE, STEPS, arrive, looks, text_from
@@ -51,6 +51,7 @@ class Live:
         self.is_full = False  # the outbox: the guest goes on after the next cut
         self.is_stopped = self.is_frozen = False  # for a drain, or since the host is frozen
         self.held = 0
+        self.turning, self.turn_wanted = None, False  # into a later generation, for the standby's log
         self.late, self.acked_at, self.waited_since = 0.0, now, None
         self.longest = 0.0  # seconds from steps of the guest to the next, though it didn't wait
         self.watch, self.pacer, self.looks = Watch(), Pacer(self), Looks(host, self, now)
@@ -105,6 +106,8 @@ class Live:
         """While the full checkpoint's text is fetched, the running epoch goes on as long as the outbox has room."""
         if self.mode == ALONE or len(self.pending) >= MOST_PENDING:
             return False
+        if self.turning is not None:
+            return self.is_full
         return self.mode == PAIRED or self.is_fetched or self.is_full
 
     def due(self, now):
@@ -148,6 +151,8 @@ class Live:
 
     def run(self, now):
         """The steps that are due by now, and the epoch's end where that is due."""
+        if self.turning is not None and self.turning.left and not turning.go_on(self, now):
+            return
         if self.has_arrived:
             self.moved_at = now
         if self.waits:
@@ -254,6 +259,8 @@ class Live:
         self.epoch_begun = max(self.epoch_begun + min(length, self.span), now - self.epoch)
         if text is not None and not text.is_refused:
             self.send_text(unhexlify(text.words[1]), now)
+        if self.turn_wanted and turning.begin(self, now):
+            self.turn_wanted = False
 
     # What goes to the standby.
 
@@ -309,6 +316,9 @@ class Live:
 
     def acknowledge(self, generation, number, now):
         """The standby has committed all up to this number."""
+        if self.turning is not None and generation == self.turning.before:
+            self.turning.heard(number)
+            return
         if generation != self.generation or number not in self.pending:
             return  # it was heard before, or is of another time
         is_silent = True
@@ -318,6 +328,8 @@ class Live:
         if not one.is_silent:
             self.counts.acknowledged(now - one.cut_at)
         frames = self.told(number, is_silent)
+        if self.turning is not None:
+            frames, self.turning = [*self.turning.frames, *frames], None
         self.acked, self.acked_at, self.held = number, now, len(frames)
         if self.sending <= number:
             self.sending, self.sent = number + 1, 0
@@ -359,12 +371,31 @@ class Live:
         self.session, self.standby = session, standby
         self.pacer.begin(self.link.now())
 
-    def resume(self, committed, now):
+    def begin_generation(self, now):
+        """The full checkpoint of this generation is pending, and isn't sent."""
+        self.pending = OrderedDict({0: Pending(0, True, now)})
+        self.to_look, self.cut, self.acked, self.sending, self.sent, self.is_fetched = 0, 0, None, 1, 0, True
+        self.acked_at = now
+
+    def resume(self, generation, committed, now):
         """The standby's connection is a new one, and it has committed so much."""
+        if self.turning is not None and generation == self.turning.before:
+            self.successor = None
+            turning.resend(self, committed, now)
+            self.sending, self.sent = 1, 0
+            return
         if committed is not None:
             self.acknowledge(self.generation, committed, now)
         self.successor = None
         self.sending, self.sent = next(iter(self.pending), self.cut + 1), 0
+
+    def stands_in(self, generation):
+        """Whether a standby of this attachment may be in that generation."""
+        return generation == self.generation or self.turning is not None and generation == self.turning.before
+
+    def last_acked(self, generation):
+        """What the standby has acknowledged of a generation."""
+        return self.acked if generation == self.generation else self.turning.acked
 
     def heard_of(self, name, instance):
         """A host of that name came with that instance. Where it is the standby's host and another instance, the standby has ended."""
@@ -380,11 +411,14 @@ class Live:
 
     def alone(self, now):
         """The standby has stopped for good: all that is held is let out."""
-        answer = self.node.ask("alone")
+        held = self.turning.frames if self.turning is not None else []
+        is_alone = self.turning is not None and self.turning.left[:1] == [b"protect"]  # the node is, and has let out what it had
+        frames = [*held, *(() if is_alone else self.node.ask("alone").frames)]
+        self.turning, self.turn_wanted = None, False
         self.mode, self.session, self.standby, self.successor, self.late_ack = ALONE, None, None, None, None
         self.pacer.end()
         self.pending, self.cut, self.acked, self.is_full = OrderedDict(), None, None, False
         self.moved_at = now
-        self.put(answer.frames, now)
+        self.put(frames, now)
         self.looks.begin(now)
         self.end_wait(now)

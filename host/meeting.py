@@ -232,19 +232,23 @@ class Meeting:
 
     def resume(self, connection, hello, now):
         live = self.host.live
-        if (hello["instance"], hello["generation"]) != (live.standby[1], live.generation):
+        generation, committed = hello["generation"], hello["committed"]
+        if hello["instance"] != live.standby[1] or generation > live.generation:
             raise Malformed("another standby under this session's name")
-        if live.acked is not None and (hello["committed"] is None or hello["committed"] < live.acked):
-            return self.behind(connection, hello)
+        if not live.stands_in(generation):
+            return self.behind(connection, hello, f"{live.generation}")
+        if (acked := live.last_acked(generation)) is not None and (committed is None or committed < acked):
+            return self.behind(connection, hello, f"{generation} up to checkpoint {acked}")
         connection.send(messages.told(RESUME, live.session, name=self.host.settings.name, instance=self.host.instance))
         self.link.attach(connection, live.session, now)
         self.log.info(f"the link to {hello['name']} is back")
         self.compare(now)
-        live.resume(hello["committed"], now)
+        live.resume(generation, committed, now)
 
-    def behind(self, connection, hello):
+    def behind(self, connection, hello, acknowledged):
         """This host's standby has less than it acknowledged: frames went out by what it has lost."""
-        why = f"LogBehind: it ends at checkpoint {hello['committed']}, and had acknowledged {self.host.live.acked}"
+        why = (f"LogBehind: it ends in generation {hello['generation']} at checkpoint {hello['committed']}, and acknowledged generation "
+               f"{acknowledged}")
         self.log.error(f"the log of {hello['name']} isn't resumed, {why}; its disk doesn't keep what it says is synced")
         self.link.refuse(connection, messages.told(OVER, NO_SESSION, why=why, name=self.host.settings.name), why)
 

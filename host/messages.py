@@ -16,16 +16,20 @@ before there is one), and its body:
     10 GO_LIVE  who was live, and has drained and stopped: generation and number of the last checkpoint
     11 LIVE     who was told so: it is live, from that checkpoint on. Only now the other gives the guest up
     12 STAYS    who was told so: JSON, why it isn't live. The other one's guest goes on
+    13 LONG     the standby: its log is long, and is to go on with a later generation
+    14 TURN     who is live: a generation and a number (8 bytes each), and a later generation, whose checkpoint 0 is the guest as it is
+                there. No text of it comes; the standby acknowledges it as any other
 
 FIELDS has the fields of the JSON objects."""
 import json
 import struct
 
-HELLO, OFFER, READY, RESUME, NO, OVER, TEXT, ACK, PING, GO_LIVE, LIVE, STAYS = range(1, 13)
+HELLO, OFFER, READY, RESUME, NO, OVER, TEXT, ACK, PING, GO_LIVE, LIVE, STAYS, LONG, TURN = range(1, 15)
 LENGTH, HEAD = struct.Struct(">I"), struct.Struct(">IB16s")
 PLACE = struct.Struct(">QQQQ")  # of a text's bytes: generation, number, where they begin, and how many the whole text has, at most
 TEXT_HEAD = struct.Struct(">IB16sQQQQ")  # both
 NUMBER = struct.Struct(">QQ")  # generation and number
+TURNED = struct.Struct(">QQQ")  # generation, number, later generation
 NO_SESSION = bytes(16)
 MOST_BEFORE = 4096  # bytes of a message, before the two hosts have met
 MOST = 1 << 20
@@ -53,6 +57,10 @@ def acknowledgement(session, generation, number):
     return message(ACK, session, NUMBER.pack(generation, number))
 
 
+def turn(session: bytes, generation: int, number: int, later: int) -> bytes:
+    return message(TURN, session, TURNED.pack(generation, number, later))
+
+
 def taken(buffer, most):
     """The messages that are whole in a bytearray, which then has the rest: triples of kind, session and body."""
     found, at, end = [], 0, len(buffer)
@@ -60,7 +68,7 @@ def taken(buffer, most):
         length, kind, session = HEAD.unpack_from(buffer, at)
         if not 17 <= length <= most:
             break
-        if not HELLO <= kind <= STAYS:
+        if not HELLO <= kind <= TURN:
             raise Malformed(f"a message of kind {kind}")
         begin, behind = at + HEAD.size, at + LENGTH.size + length
         if behind > end:
@@ -109,6 +117,13 @@ def numbers(body):
     if len(body) != NUMBER.size:
         raise Malformed("an acknowledgement of a wrong length")
     return NUMBER.unpack(body)
+
+
+def turned(body: bytes) -> tuple[int, int, int]:
+    """A body's generation, number, and later generation."""
+    if len(body) != TURNED.size:
+        raise Malformed("a turn of a wrong length")
+    return TURNED.unpack(body)
 
 
 def place(body):

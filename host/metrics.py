@@ -66,6 +66,12 @@ def text(host):
     one("remus_begun_again_total", "counter", "Times that a standby's filling was begun again, since the guest wrote much at once.",
         counts.begun_again)
     one("remus_links_total", "counter", "Links to the peer that came up.", counts.links)
+    kept, log = host.kept, host.kept.keeper.log
+    one("remus_log_bytes", "gauge", "Bytes of the standby's log, beside its base.", log.end if log else 0)
+    one("remus_log_syncs_total", "counter", "Syncs of the standby's log.", kept.keeper.syncs)
+    one("remus_log_sync_seconds_total", "counter", "Time that these took.", float(kept.keeper.sync_seconds))
+    one("remus_log_failures_total", "counter", "Times that the standby's log failed, or couldn't be begun.", kept.failures)
+    one("remus_log_refused", "gauge", "1 where the log that was here at the daemon's start is refused.", int(kept.refused is not None))
     one("remus_node_memory_bytes", "gauge", "Memory of the node's process.", host.node.memory())
     one("remus_daemon_memory_bytes_max", "gauge", "The most memory that the daemon had.",
         resource.getrusage(resource.RUSAGE_SELF).ru_maxrss * 1024)

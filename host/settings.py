@@ -49,6 +49,7 @@ class Settings:
     guest_address: str | None = None
     metrics: tuple[str, int] | None = None
     log: str = "none"
+    log_limit_mb: int = 256
     log_format: str = field(default_factory=lambda: "journal" if "JOURNAL_STREAM" in os.environ else "text")
     log_level: str = "info"
 
@@ -190,6 +191,7 @@ KEYS = {
     "guest_address": (ipv4, "the guest's IPv4 address"),
     "metrics": (loopback_endpoint, "ADDRESS:PORT of the loopback for Prometheus"),
     "log": (log, "standby, where a standby keeps a log of the guest in the state folder, or none"),
+    "log_limit_mb": (count(1_000_000), "mebibytes after which the standby's log is begun anew, beside the full checkpoint"),
     "log_format": (one_of("text", "json", "journal"), "of what the daemon says: text, json or journal"),
     "log_level": (one_of("debug", "info", "warning", "error"), "debug, info, warning or error"),
 }

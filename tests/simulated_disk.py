@@ -75,7 +75,7 @@ class SimulatedDisk:
                 self.kept[name] = change
         self.by_name = dict(self.kept)
         self.changes, self.handles, self.left = [], [], None
-        for file in set(self.by_name.values()):
+        for file in dict.fromkeys(self.by_name.values()):
             file.lose(self.rng)
 
     # What host/log/disk.py has.

@@ -39,13 +39,18 @@ class Record(NamedTuple):
 
 
 class Head(NamedTuple):
-    """What a generation's log is of: the guest's life and shape; the attachment, and its standby; and the sum of the base."""
+    """What a generation's log is of: the guest's life and shape; the attachment, and its standby; and on what it stands: a base, whose sum
+    this is, or what the log of an earlier generation holds up to a number, and then a base may come later."""
     life: str
     pages: int
     sectors: int
     session: str
     instance: str
-    base: str
+    base: str | None
+    stands_on: list[int] | None = None
+
+
+TYPES = {"life": str, "pages": int, "sectors": int, "session": str, "instance": str}
 
 
 def seed_of(name: str) -> int:
@@ -92,7 +97,11 @@ def read_head(data: bytes) -> Head:
     """Raises Rotten."""
     try:
         head = Head(**json.loads(data))
-        is_right = all(type(value) is Head.__annotations__[name] for name, value in head._asdict().items())
+        is_right = all(type(value) is TYPES[name] for name, value in head._asdict().items() if name in TYPES)
+        if head.stands_on is None:
+            is_right &= type(head.base) is str
+        else:
+            is_right &= head.base is None and [type(one) for one in head.stands_on] == [int, int]
         bytes.fromhex(head.session)
     except (ValueError, TypeError):
         is_right = False

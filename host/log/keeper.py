@@ -10,7 +10,7 @@ from pathlib import Path
 
 from host.log.disk import Disk
 from host.log.format import Head, LogBehind, Rotten
-from host.log.reading import Found, newest
+from host.log.reading import Found, links, newest
 from host.log.writer import BaseFile, LogFile, Mark, begun, continued, tidy
 
 MARK_EVERY = 1.0  # seconds
@@ -18,8 +18,8 @@ Job = tuple[Callable[..., None], ...]
 
 
 class Keeper:
-    """`reached` is (session, number): of that attachment all up to that number is on the disk. `failed` is why nothing more is written, if
-    so. The methods of the loop give what is to be done, and answer at once."""
+    """`reached` is (session, generation, number): of that attachment all up to there is on the disk. `failed` is why nothing more is written,
+    if so. The methods of the loop give what is to be done, and answer at once."""
 
     def __init__(self, disk: Disk, folder: Path) -> None:
         self.disk, self.folder = disk, Path(folder)
@@ -27,7 +27,8 @@ class Keeper:
         self.base: BaseFile | None = None
         self.mark: Mark | None = None
         self.marked_at, self.synced_at = 0.0, None
-        self.reached: tuple[str, int] | None = None
+        self.syncs, self.sync_seconds = 0, 0.0
+        self.reached: tuple[str, int, int] | None = None
         self.failed: str | None = None
         self.jobs: deque[Job] = deque()
         self.more, self.is_ending = threading.Condition(), False
@@ -51,7 +52,7 @@ class Keeper:
 
     def resume(self, found: Found) -> None:
         """Goes on with a log that was judged, behind its end."""
-        self.give(self.continue_log, found)
+        self.give(self.resume_log, found)
 
     def prepare(self, generation: int, most: int) -> None:
         """A generation's full checkpoint is to come, which has so many bytes at most. What is here is over."""
@@ -64,6 +65,21 @@ class Keeper:
     def begin(self, generation: int, head: Head) -> None:
         """The full checkpoint is whole: its log begins, and what was here before goes. The head's sum is filled in."""
         self.give(self.begin_log, generation, head)
+
+    def turn(self, generation: int, head: Head) -> None:
+        """The log goes on with a later generation, whose head says on what it stands."""
+        self.give(self.turn_log, generation, head)
+
+    def based(self) -> None:
+        """The base of the generation that is written is on the disk: what is of earlier ones goes."""
+        self.give(self.tidy_behind_base)
+
+    def wake(self) -> None:
+        """The loop is told that there is something new, by whatever thread."""
+        try:
+            self.wakes.send(b"x")
+        except BlockingIOError:
+            pass  # it is going to wake all the same
 
     def text(self, number: int, data: bytes) -> None:
         self.give(self.append, number, data)
@@ -115,10 +131,7 @@ class Keeper:
             if not jobs:
                 return
             self.work(jobs)
-            try:
-                self.wakes.send(b"x")
-            except BlockingIOError:
-                pass  # the loop is going to wake all the same
+            self.wake()
             if time.monotonic() - self.marked_at >= MARK_EVERY:
                 self.tried(self.put_mark)
 
@@ -137,19 +150,26 @@ class Keeper:
             return
         try:
             method(*words)
-        except OSError as error:
-            self.failed = error.strerror or str(error)
+        except (OSError, Rotten, LogBehind) as error:
+            self.failed = getattr(error, "strerror", None) or str(error)
+
+    def resume_log(self, found: Found) -> None:
+        """What is left of other logs, since the power failed while it was removed, goes."""
+        self.continue_log(found)
+        tidy(self.disk, self.folder, {one.generation for one in links(self.disk, self.folder, found)})
 
     def continue_log(self, found: Found) -> None:
         self.log = continued(self.disk, self.folder, found)
         self.mark = Mark(self.disk, self.folder, found.generation)
-        self.reached = (found.head.session, found.number)
+        self.reached = (found.head.session, found.generation, found.number)
 
     def begin_base(self, generation: int, most: int) -> None:
         self.disk.make_folder(self.folder)
-        self.end_what_is_here()
         if self.base is not None:
             self.base.discard()
+            self.base = None
+        self.end_what_is_here()
+        tidy(self.disk, self.folder, {self.log.generation} if self.log is not None else set())
         self.base = BaseFile(self.disk, self.folder, generation, most)
         self.disk.sync(self.base.file)  # so that a disk that fails is found before anybody waits for it
 
@@ -172,17 +192,34 @@ class Keeper:
 
     def begin_log(self, generation: int, head: Head) -> None:
         base, self.base = self.base, None
-        self.close_log()
-        self.forget_mark(generation)
-        self.log = begun(self.disk, self.folder, generation, head._replace(base=base.finish()))
-        tidy(self.disk, self.folder, generation)
-        self.mark, self.marked_at = Mark(self.disk, self.folder, generation), 0.0
-        self.reached, self.synced_at = (head.session, 0), time.time()
+        self.next_log(generation, head._replace(base=base.finish()))
+        self.tidy()
+        self.reached = (head.session, generation, 0)
 
-    def forget_mark(self, generation: int) -> None:
-        """A mark of another life's log of that generation isn't one of this."""
-        if (name := f"{generation}.mark") in self.disk.names(self.folder):
-            self.disk.remove(self.folder / name)
+    def turn_log(self, generation: int, head: Head) -> None:
+        self.sync()  # what it stands on
+        self.forget(f"{generation}.base")
+        self.next_log(generation, head)
+        self.reached = (head.session, generation, 0)
+
+    def next_log(self, generation: int, head: Head) -> None:
+        self.close_log()
+        self.forget(f"{generation}.mark")
+        self.log, self.synced_at = begun(self.disk, self.folder, generation, head), time.time()
+        self.mark, self.marked_at = Mark(self.disk, self.folder, generation), 0.0
+
+    def tidy_behind_base(self) -> None:
+        if f"{self.log.generation}.base" in self.disk.names(self.folder):
+            self.tidy()
+
+    def tidy(self) -> None:
+        tidy(self.disk, self.folder, {self.log.generation})
+
+    def forget(self, *names: str) -> None:
+        """What is left under these names is of another life, of a generation with the same number."""
+        if left := set(names) & set(self.disk.names(self.folder)):
+            for name in left:
+                self.disk.remove(self.folder / name)
             self.disk.sync_folder(self.folder)
 
     def append(self, number: int, data: bytes) -> None:
@@ -201,8 +238,10 @@ class Keeper:
     def sync(self) -> None:
         log = self.log
         if log is not None and log.synced < log.end:
+            begun_at = time.monotonic()
             log.sync()
-            self.reached, self.synced_at = (log.session, log.number), time.time()
+            self.syncs, self.sync_seconds = self.syncs + 1, self.sync_seconds + time.monotonic() - begun_at
+            self.reached, self.synced_at = (log.session, log.generation, log.number), time.time()
 
     def settle(self, done: threading.Event) -> None:
         """Somebody waits for what was given before, whether it failed or not."""
@@ -211,5 +250,5 @@ class Keeper:
 
     def put_mark(self) -> None:
         if self.mark is not None and self.reached is not None:
-            self.mark.put(self.reached[1], self.log.synced)
+            self.mark.put(self.reached[2], self.log.synced)
             self.marked_at = time.monotonic()

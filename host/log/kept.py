@@ -3,27 +3,30 @@ and whether what a log holds may be promoted."""
 import datetime
 
 from host.backoff import Backoff
+from host.log.catch_up import CatchUp
 from host.log.disk import Disk
 from host.log.format import Head, LogBehind, Rotten
 from host.log.keeper import Keeper
 from host.log.reading import Found, newest
-from host.log.recovery import fill
+from host.log.recovery import recovered
 from host.node import Node, NodeEnded
 from host.text import COUNT, MOST_PAGE, RECORDS_AT, SECTOR
 
 WAIT = 5.0  # seconds, for what must be on the disk before anything else is done
 WORKED = 600.0  # seconds, after which a log that fails isn't taken for one that fails again
-LOW = 64 << 20  # bytes of room on the disk, below which that is told
+MEBIBYTE = 1 << 20
+LOW = 64 * MEBIBYTE  # bytes of room on the disk, below which that is told
 LOOK_EVERY = 10.0  # seconds
 MORE = 1 << 62  # than any number of a checkpoint: what a frozen host holds is of its guest as it stopped
 
 
 class StandbyLog:
-    """The log of one attachment: `given` is the last number that the keeper has, and `reached` the last one that is on the disk."""
+    """The log of one attachment: `given` is the last number that the keeper has, of `generation`, and `reached` the last generation and
+    number that are on the disk."""
 
-    def __init__(self, keeper: Keeper, head: Head, generation: int, number: int | None = None) -> None:
-        self.keeper, self.head, self.generation = keeper, head, generation
-        self.given = self.begun_at = number
+    def __init__(self, kept: "Kept", head: Head, generation: int, number: int | None = None) -> None:
+        self.kept, self.keeper, self.head, self.generation = kept, kept.keeper, head, generation
+        self.given, self.begun_at = number, None if number is None else (generation, number)
         self.parts = []  # of the text that is coming
 
     def came(self, number: int, begin: int, data: bytes) -> None:
@@ -35,20 +38,52 @@ class StandbyLog:
         else:
             self.parts.append(data)
 
-    def committed(self, number: int) -> None:
-        """The node has committed the text that came; one that it had before is in the log already."""
+    def committed(self, number: int) -> bytes | None:
+        """The text that came is committed. It, if it is one that the log lacked."""
+        text, self.parts = b"".join(self.parts), []
         if number == 0 and self.given is None:
             self.keeper.begin(self.generation, self.head)
-            self.given = 0
         elif self.given is not None and number == self.given + 1:
-            self.keeper.text(number, b"".join(self.parts))
-            self.given = number
-        self.parts = []
+            self.keeper.text(number, text)
+        else:
+            return None
+        self.given = number
+        return text
 
     @property
-    def reached(self) -> int | None:
+    def reached(self) -> tuple[int, int] | None:
         reached = self.keeper.reached
-        return reached[1] if reached is not None and reached[0] == self.head.session else self.begun_at
+        return reached[1:] if reached is not None and reached[0] == self.head.session else self.begun_at
+
+    @property
+    def is_long(self) -> bool:
+        log = self.keeper.log
+        return log is not None and log.end > self.kept.limit
+
+    def turn(self, generation: int) -> None:
+        """It goes on with a later generation, from where it stands."""
+        head = self.head._replace(base=None, stands_on=[self.generation, self.given])
+        self.generation, self.given, self.parts = generation, 0, []
+        self.keeper.turn(generation, head)
+
+    def catch_up(self, node: Node) -> CatchUp:
+        """What makes the node of that generation, and its base, once it is begun."""
+        kept, head = self.kept, self.head
+        return CatchUp(node, kept.host.settings.node, kept.disk, kept.folder, head, self.generation, most_of(head.pages, head.sectors),
+                       self.keeper.wake)
+
+    def caught_up(self, made: CatchUp) -> None:
+        """The base is on the disk, unless that failed: then the earlier generation stays, and the log is long as before."""
+        if made.wrong is None:
+            self.keeper.based()
+        else:
+            self.kept.host.log.warning(f"the base of generation {made.generation} can't be written into {self.kept.folder}, {made.wrong}: "
+                                       "what came before it stays")
+
+
+def most_of(pages: int, sectors: int) -> int:
+    """The most bytes that the text of a full checkpoint has."""
+    return RECORDS_AT + pages * MOST_PAGE + sectors * (COUNT.size + SECTOR) + 2 * COUNT.size
 
 
 class Unprepared(Exception):
@@ -61,36 +96,35 @@ class Kept:
     def __init__(self, host: "Daemon", disk: Disk) -> None:
         self.host, self.disk, self.folder = host, disk, host.state.folder / "log"
         self.keeps, self.keeper = host.settings.log != "none", Keeper(disk, self.folder)
+        self.limit = host.settings.log_limit_mb * MEBIBYTE
         self.found: Found | None = None  # the log that this host is a standby from, until its live host has it again
         self.refused: str | None = None  # why the log that was here at the start isn't loaded
         self.backoff, self.prepared_at = Backoff(), 0.0
-        self.is_low, self.looked_at = False, 0.0
+        self.is_low, self.looked_at, self.failures = False, 0.0, 0
         self.peer: dict | None = None  # what the peer said last of what it holds
 
     # At the start.
 
     def recover(self) -> tuple[Node, Found] | None:
         """The log that counts, and a node that is a standby from it; None where there is none, or it is refused."""
-        log, node = self.host.log, None
+        log = self.host.log
         try:
             found = newest(self.disk, self.folder)
             if found is None:
                 return None
             if not self.keeps:
-                log.warning(f"log is none: the log in {self.folder}, of generation {found.generation} up to checkpoint {found.number}, isn't "
-                            "loaded")
+                log.warning(f"log is none: the log in {self.folder}, of generation {found.generation} up to checkpoint {found.number}, "
+                            "isn't loaded")
                 return None
-            node = Node(self.host.settings.node)
-            fill(node, self.disk, self.folder, found)
+            node = recovered(self.host.settings.node, self.disk, self.folder, found)
         except (Rotten, LogBehind, NodeEnded, OSError) as error:
-            if node is not None:
-                node.close()
             self.refused = f"{type(error).__name__}: {error}"
             log.error(f"the log in {self.folder} is refused, and this host is empty: {self.refused}")
             return None
         self.found = found
         self.keeper.resume(found)
-        log.info(f"this host is a standby from its log: generation {found.generation}, checkpoint {found.number}, written {at(found.ended)}")
+        log.info(f"this host is a standby from its log: generation {found.generation}, checkpoint {found.number}, written "
+                 f"{at(found.ended)}")
         return node, found
 
     # The standby's log.
@@ -102,7 +136,7 @@ class Kept:
         self.prepared_at = self.host.link.now()
         pages, sectors = shape
         if self.keeps:
-            self.keeper.prepare(generation, RECORDS_AT + pages * MOST_PAGE + sectors * (COUNT.size + SECTOR) + 2 * COUNT.size)
+            self.keeper.prepare(generation, most_of(pages, sectors))
         elif self.disk.names(self.folder):
             self.keeper.end_all()
         else:
@@ -110,14 +144,15 @@ class Kept:
         if not self.keeper.finish(WAIT):
             raise Unprepared(self.left())
         head = Head(life, pages, sectors, session.hex(), self.host.instance, "")
-        return StandbyLog(self.keeper, head, generation) if self.keeps else None
+        return StandbyLog(self, head, generation) if self.keeps else None
 
     def resumed(self, found: Found) -> StandbyLog:
-        return StandbyLog(self.keeper, found.head, found.generation, found.number)
+        return StandbyLog(self, found.head, found.generation, found.number)
 
     def left(self) -> str:
         """Leaves a log that failed, and says why it did. It is never touched again by this keeper."""
         why = self.keeper.failed or f"the disk took longer than {WAIT:.0f} s"
+        self.failures += 1
         self.keeper.leave()
         self.keeper = Keeper(self.disk, self.folder)
         return f"the log in {self.folder} failed, {why}"
@@ -146,8 +181,8 @@ class Kept:
             return
         self.keeper.end_all()
         if not self.keeper.finish(WAIT):
-            self.host.log.error(f"it can't be written into the log in {self.folder} that it is over: remove that folder before this daemon is "
-                                "started again, since what it holds is stale")
+            self.host.log.error(f"it can't be written into the log in {self.folder} that it is over: remove that folder before this daemon "
+                                "is started again, since what it holds is stale")
 
     # Before a promotion.
 
@@ -170,8 +205,8 @@ class Kept:
         if peer["life"] == self.found.head.life and peer["full"]:
             theirs = peer["generation"], MORE if peer["committed"] is None else peer["committed"]
             if theirs > mine:
-                return "Stale", (f"{peer['name']} holds generation {theirs[0]} of this guest"
-                                 f"{'' if theirs[1] == MORE else f' up to checkpoint {theirs[1]}'}, and this host {mine[0]} up to {mine[1]}")
+                upto = "" if theirs[1] == MORE else f" up to checkpoint {theirs[1]}"
+                return "Stale", f"{peer['name']} holds generation {theirs[0]} of this guest{upto}, and this host {mine[0]} up to {mine[1]}"
         return None
 
     # What is told.
@@ -196,7 +231,8 @@ class Kept:
         except OSError:
             return
         if (is_low := room < LOW) and not self.is_low:
-            self.host.log.warning(f"the disk of {self.folder} has {room >> 20} MiB left: where it is full, this host is no standby any more")
+            self.host.log.warning(f"the disk of {self.folder} has {room // MEBIBYTE} MiB left: once it is full, this host is no standby any "
+                                  "more")
         self.is_low = is_low
 
     def close(self) -> None:

@@ -10,6 +10,7 @@ from host.log.format import (BASE_HEAD, BASE_MAGIC, BLOCK, FIRST, HEAD, HEADER, 
 
 PIECE = 1 << 20  # bytes that are read at a time
 KNOWN = {HEAD, TEXT, OVER}
+SUM_SIZE = 32
 
 
 class Found(NamedTuple):
@@ -154,10 +155,11 @@ class BaseReader:
     def close(self) -> None:
         self.disk.close(self.file)
 
-    def pieces(self, wanted: str) -> Iterator[bytes]:
+    def pieces(self, wanted: str | None) -> Iterator[bytes]:
         """Its text, piece by piece; the last one is given only where all are as they were written. `wanted` is the sum that the log's head
-        has. Raises Rotten."""
+        has, if it has one. Raises Rotten."""
         head, length = self.disk.read(self.file, BLOCK, 0), self.disk.size(self.file) - BLOCK
+        wanted = wanted or head[BASE_HEAD.size - SUM_SIZE:BASE_HEAD.size].hex()
         expected = BASE_HEAD.pack(BASE_MAGIC, 0, self.generation, max(0, length), bytes.fromhex(wanted))
         if head != expected + bytes(BLOCK - BASE_HEAD.size):
             raise Rotten(f"{self.name}: its head isn't as it was written")
@@ -187,17 +189,37 @@ def newest(disk: Disk, folder: Path) -> Found | None:
     return None
 
 
-def check_all(disk: Disk, folder: Path, found: Found) -> int:
-    """Reads all of a log that was judged, and of its base, and answers the bytes of the texts. Raises Rotten, OSError."""
-    total = 0
-    base, log = BaseReader(disk, folder, found.generation), LogReader(disk, folder, found.generation)
+def links(disk: Disk, folder: Path, found: Found) -> list[Found]:
+    """The logs on which one stands, it last, from that on which has its base in the folder. Each but the last has the texts that count of
+    it. Raises Rotten, LogBehind, OSError."""
+    names, made = disk.names(folder), [found]
+    while (earliest := made[0]).head.stands_on is not None and f"{earliest.generation}.base" not in names:
+        generation, number = earliest.head.stands_on
+        before = judged_log(disk, folder, generation) if f"{generation}.log" in names and generation < earliest.generation else None
+        if before is None or before.head.life != found.head.life:
+            raise Rotten(f"{generation}.log isn't there, and {earliest.generation}.log stands on it")
+        if before.number < number:
+            raise LogBehind(f"{generation}.log ends at checkpoint {before.number}, and {earliest.generation}.log stands on {number}")
+        made.insert(0, before._replace(places=before.places[:number]))
+    return made
+
+
+def texts(disk: Disk, folder: Path, found: Found, has_base: bool) -> Iterator[bytes]:
+    """All bytes of a log: of its base, if it has one, piece by piece, and its texts. Raises Rotten, OSError."""
+    base, log = BaseReader(disk, folder, found.generation) if has_base else None, LogReader(disk, folder, found.generation)
     try:
-        for parts in (base.pieces(found.head.base), log.texts(found)):
-            total += sum(map(len, parts))
+        if base is not None:
+            yield from base.pieces(found.head.base)
+        yield from log.texts(found)
     finally:
-        base.close()
-        log.close()
-    return total
+        for one in (base, log):
+            if one is not None:
+                one.close()
+
+
+def check_all(disk: Disk, folder: Path, found: Found) -> int:
+    """Reads all of a log that was judged, and of what it stands on, and answers the bytes of its texts. Raises as those do."""
+    return sum(len(part) for place, one in enumerate(links(disk, folder, found)) for part in texts(disk, folder, one, place == 0))
 
 
 def is_log(name: str) -> bool:

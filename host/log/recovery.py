@@ -1,33 +1,81 @@
 """A node made of what a log holds: a standby that stands where the log ends."""
-from collections.abc import Iterable
+from collections.abc import Callable, Iterable
 from pathlib import Path
 
 from host.log.disk import Disk
-from host.log.format import Rotten
-from host.log.reading import BaseReader, Found, LogReader
-from host.node import PIECE, Node, Refused, piece
+from host.log.format import Head, Rotten
+from host.log.reading import BaseReader, Found, LogReader, links
+from host.node import LOOK, PIECE, Node, Refused, looks, piece, text_from
 
 MOST_AT_ONCE = 1 << 18  # bytes of lines that a node is told at a time, which fit into its pipe
 
 
+def recovered(command: list[str], disk: Disk, folder: Path, found: Found) -> Node:
+    """A node that is the standby whose log that is. Raises Rotten, also where a node takes something otherwise than it was written;
+    LogBehind, OSError, NodeEnded."""
+    made = links(disk, folder, found)
+    node = Node(command)
+    try:
+        fill(node, disk, folder, made[0])
+        for one in made[1:]:
+            node = handed_over(node, command, one.head, one.generation)
+            feed_log(node, disk, folder, one)
+    except Refused as refused:
+        node.close()
+        raise Rotten(f"{found.generation}.log: the node refuses what it holds: {refused}") from None
+    except BaseException:
+        node.close()
+        raise
+    return node
+
+
 def fill(node: Node, disk: Disk, folder: Path, found: Found) -> None:
-    """Makes a node that has nothing the standby that the log is of. Raises Rotten, also where the node takes something otherwise than it
-    was written; OSError, NodeEnded."""
-    head = found.head
-    base = log = None
+    """Makes a node that has nothing the standby of a log that has its base. Raises Refused, Rotten, OSError."""
+    head, base = found.head, BaseReader(disk, folder, found.generation)
     try:
         node.ask(f"standby {head.pages} {head.sectors} {found.generation}")
-        base, log = BaseReader(disk, folder, found.generation), LogReader(disk, folder, found.generation)
         for data in base.pieces(head.base):
             feed(node, data)
         committed(node.ask("commit"), found.generation, 0)
-        feed_many(node, log.texts(found), found.generation)
-    except Refused as refused:
-        raise Rotten(f"{found.generation}.log: the node refuses what it holds: {refused}") from None
     finally:
-        for one in (base, log):
-            if one is not None:
-                one.close()
+        base.close()
+    feed_log(node, disk, folder, found)
+
+
+def feed_log(node: Node, disk: Disk, folder: Path, found: Found) -> None:
+    log = LogReader(disk, folder, found.generation)
+    try:
+        feed_many(node, log.texts(found), found.generation)
+    finally:
+        log.close()
+
+
+def handed_over(node: Node, command: list[str], head: Head, generation: int, sink: Callable[[bytes], None] = lambda data: None) -> Node:
+    """Another node, which is a standby in a later generation and stands where this one does; this one is closed. It goes live where nobody
+    hears of it, and protects: its full checkpoint is that of its state, which `sink` gets too, piece by piece. Raises Refused, Rotten,
+    NodeEnded."""
+    other = None
+    try:
+        node.ask("golive")
+        if (made := node.ask("protect").number(1)) != generation:
+            raise Rotten(f"{generation}.log stands on a log after which generation {made} comes")
+        other = Node(command)
+        other.ask(f"standby {head.pages} {head.sectors} {generation}")
+        for _ in range(looks(head.pages)):
+            node.ask(LOOK)
+        begin, is_last = 0, False
+        while not is_last:
+            data, is_last = text_from(node, 0, begin)
+            feed(other, data)
+            sink(data)
+            begin += len(data)
+        committed(other.ask("commit"), generation, 0)
+        node.close()
+        return other
+    except BaseException:
+        if other is not None:
+            other.close()
+        raise
 
 
 def feed(node: Node, data: bytes) -> None:

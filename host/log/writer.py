@@ -131,12 +131,13 @@ class Mark:
         self.disk.close(self.file)
 
 
-def tidy(disk: Disk, folder: Path, generation: int) -> None:
-    """Removes what is of other generations. This one's base and the head of its log must be on the disk, their names too. Marks go first,
-    so that none is ever left without its log."""
-    others = [name for name in disk.names(folder) if generation_of(name) not in (None, generation)]
+def tidy(disk: Disk, folder: Path, kept: set[int]) -> None:
+    """Removes what is of other generations than these, whose bases and heads are on the disk, their names too. Marks go first, so that none
+    is left without its log, and then the earliest generation, so that none is left without a later one that says that its life is over."""
+    others = [name for name in disk.names(folder) if generation_of(name) not in (None, *kept)]
     marks = [name for name in others if name.endswith(".mark")]
-    for names in (marks, [name for name in others if name not in marks]):
+    rest = [name for name in others if name not in marks]
+    for names in (marks, *([name for name in rest if generation_of(name) == of] for of in sorted(set(map(generation_of, rest))))):
         for name in names:
             disk.remove(folder / name)
         disk.sync_folder(folder)

@@ -1,0 +1,85 @@
+"""A live host turns its guest over into a later generation without a full text, so that its standby's log can begin anew: where it was cut
+it goes alone and protects, twice. A standby that goes live and protects where the same cut was committed is the same primary, so that
+checkpoint 0 of the later generation is told by where the earlier one stands. What `alone` lets out is held until that is acknowledged."""
+from collections import OrderedDict
+
+from host import messages
+from host.dead import Watch
+from host.node import PIECE, text_from
+
+MOST = 4 << 20  # bytes of pending texts, which are kept until they are acknowledged
+LINES = b"protect", b"alone", b"protect"
+
+
+class Turn:
+    """`before` is the generation that ends at checkpoint `number`, `texts` its texts that aren't acknowledged; `left` the node's lines that
+    are to come, since it refused one for want of memory; `frames` are held."""
+
+    def __init__(self, before: int, number: int, texts: OrderedDict[int, bytes], acked: int | None) -> None:
+        self.before, self.number, self.texts, self.acked = before, number, texts, acked
+        self.left, self.frames = list(LINES), []
+
+    def heard(self, number: int | None) -> None:
+        """The standby has committed all of the earlier generation up to this number."""
+        if number is not None and number in self.texts:
+            while number in self.texts:
+                self.texts.popitem(last=False)
+            self.acked = number
+
+    def send(self, live: "Live", first: int, begin: int, now: float) -> None:
+        """Sends the texts from one of them on, and of that from one of its bytes on."""
+        for number, text in self.texts.items():
+            if number >= first:
+                for at in range(begin if number == first else 0, len(text), PIECE):
+                    live.link.send(messages.text(live.session, self.before, number, at, len(text), text[at:at + PIECE]), now)
+
+    def tell(self, live: "Live", now: float) -> None:
+        live.link.send(messages.turn(live.session, self.before, self.number, live.generation), now)
+
+
+def begin(live: "Live", now: float) -> bool:
+    """Begins it, where the guest was just cut. Whether it has: not where much is pending."""
+    if not live.is_linked or live.is_stopped or live.turning is not None or live.pacer.is_on(now):
+        return False
+    if sum(one.total for one in live.pending.values()) > MOST:
+        return False
+    live.turning = turn = Turn(live.generation, live.cut, OrderedDict((number, whole(live, number)) for number in live.pending), live.acked)
+    turn.send(live, live.sending, live.sent, now)
+    turn.frames = list(live.tell(b"alone")[0].checked().frames)
+    go_on(live, now)
+    return True
+
+
+def go_on(live: "Live", now: float) -> bool:
+    """Tells the node what is left of it, and then the standby. Whether nothing is left: else it is tried again, and the guest stands."""
+    turn = live.turning
+    while turn.left:
+        answer = live.node.tell(turn.left[0])[0]
+        if answer.is_refused:
+            live.log.seldom("turn", "error", f"the node can't go on with its log's next generation: {b' '.join(answer.words).decode()}")
+            return False
+        turn.left.pop(0)
+        live.generation = answer.number(1)
+    live.begin_generation(now)
+    live.watch = Watch()
+    turn.tell(live, now)
+    return True
+
+
+def whole(live: "Live", number: int) -> bytes:
+    """A pending checkpoint's text."""
+    parts, is_last, begin = [], False, 0
+    while not is_last:
+        data, is_last = text_from(live.node, number, begin)
+        parts.append(data)
+        begin += len(data)
+    return b"".join(parts)
+
+
+def resend(live: "Live", committed: int | None, now: float) -> None:
+    """The standby's connection is a new one, and it stands in the earlier generation."""
+    turn = live.turning
+    turn.heard(committed)
+    turn.send(live, 0, 0, now)
+    if not turn.left:
+        turn.tell(live, now)
