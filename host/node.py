@@ -1,10 +1,11 @@
 """The node's process, and its lines: docs/NODES.md."""
 import fcntl
 import os
-import resource
 import signal
 import subprocess
 from binascii import hexlify, unhexlify
+
+from host import stack
 
 PIPE_BYTES = 1 << 20
 BUFFER = 1 << 18  # bytes, above those of a line with a piece of a text
@@ -12,9 +13,6 @@ SET_PIPE_SIZE = 1031  # F_SETPIPE_SZ
 # How the C library serves the node, unless the environment has it otherwise. What a large epoch takes is given back with it, so the next
 # one would get it from the system page by page, which takes longer than the cut itself: up to 256 MiB stay.
 MEMORY = {"MALLOC_MMAP_MAX_": "0", "MALLOC_TRIM_THRESHOLD_": str(256 << 20)}
-# A process whose stack wants a page that the kernel refuses is ended by SIGSEGV. At its first answer the node has nearly all that it ever
-# wants, some 200 KB, and it gets this much more at once; and a limit that is lower than this one is raised.
-MORE_STACK, STACK_LIMIT = 256 << 10, 8 << 20  # bytes
 ENDS = {signal.SIGSEGV: ", as one that is refused a page of its stack", signal.SIGKILL: ", as one that somebody kills, or the kernel where "
         "memory is short"}
 WITH_FRAMES, REFUSALS = {b"steps", b"acked", b"alone"}, {b"refused", b"bad"}
@@ -59,7 +57,7 @@ class Answer:
 def started(command: list[str]) -> subprocess.Popen:
     """A node's process. The signals that tell a daemon to end, which a terminal or an init system may send to all of its group, don't
     reach it: the daemon ends it, when it is needed no more."""
-    raise_stack_limit()
+    stack.raise_limit()
     kept = signal.pthread_sigmask(signal.SIG_BLOCK, SHIELDED)
     try:
         return subprocess.Popen(command, env=MEMORY | os.environ, stdin=subprocess.PIPE, stdout=subprocess.PIPE, bufsize=BUFFER)
@@ -67,29 +65,6 @@ def started(command: list[str]) -> subprocess.Popen:
         raise NodeEnded(f"{command[0]} can't be started: {error.strerror}") from None
     finally:
         signal.pthread_sigmask(signal.SIG_SETMASK, kept)
-
-
-def raise_stack_limit() -> None:
-    """Of this process, and of those that it starts, as far as it may."""
-    soft, hard = resource.getrlimit(resource.RLIMIT_STACK)
-    if soft != resource.RLIM_INFINITY and soft < STACK_LIMIT:
-        most = STACK_LIMIT if hard == resource.RLIM_INFINITY else min(hard, STACK_LIMIT)
-        resource.setrlimit(resource.RLIMIT_STACK, (most, hard))
-
-
-def grow_stack(pid: int) -> None:
-    """Has the kernel give a process more stack now. Raises NodeEnded where it refuses that."""
-    try:
-        with open(f"/proc/{pid}/maps") as maps:
-            begin = next((int(line.partition("-")[0], 16) for line in maps if line.endswith("[stack]\n")), 0)
-        with open(f"/proc/{pid}/mem", "r+b", buffering=0) as memory:
-            memory.seek(begin - MORE_STACK)
-            memory.write(bytes(MORE_STACK))  # below all that it has, so nothing is written over
-    except PermissionError:
-        pass  # whoever runs under another name, or is kept from it, grows page by page
-    except (OSError, ValueError):
-        raise NodeEnded(f"the node can't have {MORE_STACK} bytes of stack more: the limits here are too narrow (ulimit -s and -v, or "
-                        "vm.overcommit_memory)") from None
 
 
 class Node:
@@ -107,11 +82,10 @@ class Node:
         if self.tell(b"show")[0].words[:1] != [b"mode"]:
             self.close()
             raise NodeEnded(f"{' '.join(command)} doesn't answer as a node does")
-        try:
-            grow_stack(self.pid)
-        except NodeEnded:
+        if not stack.grow(self.pid):
             self.close()
-            raise
+            raise NodeEnded(f"the node can't have {stack.MORE[-1]} bytes of stack more: the limits here are too narrow (ulimit -s and -v, or "
+                            "vm.overcommit_memory)")
 
     def tell(self, *lines):
         """The answers to these lines. Together they, or their answers, fit into a pipe, but for the last one's."""
