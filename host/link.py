@@ -312,6 +312,7 @@ class Link:
         """A connection that isn't attached is over, and who asked for that has said why."""
         connection.close()
         self.forget(connection)
+        self.meeting.offered.pop(connection, None)
 
     def hang_up(self, connection):
         """A call is over, and who asked for that has said why: the peer is called again."""

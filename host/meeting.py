@@ -98,10 +98,8 @@ class Meeting:
 
     def withdraw(self, name):
         """A host of that name has come again: what it was offered before is void."""
-        for connection in [one for one, (_, standby, _) in self.offered.items() if standby[0] == name or not self.link.is_unattached(one)]:
-            del self.offered[connection]
-            if self.link.is_unattached(connection):
-                self.link.leave(connection)
+        for connection in [one for one, (_, standby, _) in self.offered.items() if standby[0] == name]:
+            self.link.leave(connection)
 
     def leave_unfilled(self, hello, now):
         """A standby that has begun anew before all of the full checkpoint was sent to it holds nothing with which anybody could go live."""
@@ -146,8 +144,8 @@ class Meeting:
             self.conflict.is_so(f"two hosts are live, this one and {name}, {why}: neither gives way by itself. {KEEP_ONE}", "error")
             return self.refuse(connection, f"two hosts are live, {why}", "debug")
         if other > mine:
-            self.give_way(f"{name} lives in generation {other} of this guest, and this host in {mine}")
-            return self.refuse(connection, "this host lives in an earlier generation, and is frozen", "debug")
+            self.refuse(connection, f"it lives in generation {mine} of this guest, which is earlier, and gives way", "debug")
+            return self.give_way(f"{name} lives in generation {other} of this guest, and this host in {mine}")
         why = f"this host lives in generation {mine} of this guest, and {name} in {other}"
         self.conflict.is_so(f"two hosts are live: {why}, which has to give way", "error")
         return self.over_for(connection, hello, f"it lives in generation {mine} of this guest, which is later")
@@ -163,7 +161,7 @@ class Meeting:
         if kind == OVER and not self.host.live.is_stopped:
             self.give_way(f"{told['name']} is live too, and {told['why']}")
         elif role == "live":
-            self.conflict.is_so(f"two hosts are live, this one and {told['name']}, which answers: {told['why']}. {KEEP_ONE}", "error")
+            self.conflict.is_so(f"two hosts are live, this one and {told['name']}, which answers: {told['why']}", "error")
         else:
             self.link.trouble.is_over(f"{told['name']} is reached, and is {role}")
 
@@ -276,7 +274,6 @@ class Meeting:
 
     def declined(self, connection, told):
         """The host that was offered an attachment can't be a standby."""
-        del self.offered[connection]
         self.link.leave(connection)
         self.link.told_off(connection, "warning", f"{told['name']} can't be a standby: {told['why']}")
 
