@@ -13,6 +13,7 @@ from agent.ocf import DEGRADED, GENERIC, INSTALLED, NOT_RUNNING, PROMOTED, SUCCE
 
 TAKE_SECONDS = 5  # for a demotion before a stop
 AS_STANDBY = ("Unpromoted", "Slave")  # what Pacemaker calls an instance, to whose monitor it says so
+TWO_LIVE_SECONDS = 5  # longer than from one monitor to the next
 LOST_SECONDS = 10  # nobody has the guest for so long: it isn't just on its way from one host to the other
 
 # What can't be safe otherwise, as Pacemaker's environment says it of the clone.
@@ -26,6 +27,7 @@ class Pair:
         self.asked = self.daemon.started + ".given-up"  # is there while this host has given its standby up
         self.gone = self.daemon.started + ".gone"  # the standby that the last monitor saw gone
         self.lost = self.daemon.started + ".lost"  # is there, and as old, while nobody has the guest
+        self.two_live = self.daemon.started + ".two-live"  # is there, and as old, while this host is live by hand, and another one too
         self.wrong = self.daemon.started + ".wrong"  # is there while this node's attribute says that something is wrong
 
     # What the daemon says.
@@ -96,7 +98,8 @@ class Pair:
         finally:
             publishing.join()
         self.say_wrong([])
-        forget(self.lost)
+        for note in (self.lost, self.two_live):
+            forget(note)
         return SUCCESS
 
     def reload(self) -> int:
@@ -176,9 +179,7 @@ class Pair:
         if life is None or here is None or self.cluster.best_score_elsewhere() >= SCORE_FULL:
             forget(self.lost)
             return None
-        if age(self.lost) is None:
-            self.note(self.lost)
-        if (age(self.lost) or 0) < LOST_SECONDS:
+        if self.lasts(self.lost) < LOST_SECONDS:
             return None
         return (f"the guest of life {life.name} is live nowhere, and no host of the cluster can go on with it (here: {here}). A new one is "
                 f"booted once {self.cluster.life_name} is deleted")
@@ -242,6 +243,16 @@ class Pair:
         except OSError as error:
             warn(f"{path} can't be written: {error}")
 
+    def lasts(self, path: str) -> float:
+        """For how many seconds a note is there; where it isn't yet, or the clock went back, it is from now on."""
+        try:
+            seconds = time.time() - os.stat(path).st_mtime
+        except OSError:
+            seconds = -1
+        if seconds < 0:
+            self.note(path)
+        return max(seconds, 0)
+
     def absent(self) -> int:
         """Nobody listens: no daemon was started, or it has ended, or its socket is gone."""
         self.daemon.refuse_deaf()
@@ -261,8 +272,11 @@ class Pair:
 
     def was_promoted_by_hand(self) -> bool:
         """Whether Pacemaker takes this live host for a standby, and nobody else is live. Pacemaker would stop it if it were told so; by its
-        score it promotes it."""
-        return meta("role") in AS_STANDBY and self.cluster.best_score_elsewhere() <= SCORE_FULL
+        score it promotes it. That another host is live its score says for a while after it has handed the guest on, until its own monitor."""
+        if meta("role") not in AS_STANDBY or self.cluster.best_score_elsewhere() <= SCORE_FULL:
+            forget(self.two_live)
+            return meta("role") in AS_STANDBY
+        return self.lasts(self.two_live) < TWO_LIVE_SECONDS
 
     def refuse_stale(self, status: dict) -> None:
         try:
@@ -439,14 +453,6 @@ def forget(path: str) -> None:
         os.unlink(path)
     except OSError:
         pass
-
-
-def age(path: str) -> float | None:
-    """For how many seconds a note is there; None where it isn't."""
-    try:
-        return time.time() - os.stat(path).st_mtime
-    except OSError:
-        return None
 
 
 def meta_data() -> str:
