@@ -4,6 +4,7 @@
 
 #include "parameters.h"
 #include "rows.h"
+#include "types.h"
 
 #define MOST_NAME 64
 #define MOST_PARAMETERS 1000
@@ -17,6 +18,7 @@ struct prepared {
     int columns;     /* that it had when it was prepared, which are all that a portal and `told` have room for */
     int parameters;
     uint32_t *types; /* of the parameters; 0: none was named */
+    uint32_t *beside; /* the types that these have by what stands beside them, or NULL while nobody has asked */
     uint32_t *told;  /* the columns' types that the client was told last, or NULL */
 };
 
@@ -102,6 +104,7 @@ static void free_statement(struct prepared *prepared) {
     sqlite3_finalize(prepared->compiled);
     sqlite3_free(prepared->text);
     sqlite3_free(prepared->types);
+    sqlite3_free(prepared->beside);
     sqlite3_free(prepared->told);
     sqlite3_free(prepared);
 }
@@ -218,6 +221,22 @@ static int read_formats(struct reader *reader, uint8_t *formats, int count) {
     return !reader->is_short;
 }
 
+/* The type in which a value comes in binary, and which a client that asks for it is told. In text a value whose type nobody named is text,
+   and takes the affinity of its column. */
+static uint32_t type_of_parameter(const struct prepared *prepared, int place) {
+    return prepared->types[place] != 0 || prepared->beside == NULL ? prepared->types[place] : prepared->beside[place];
+}
+
+/* Answers whether there was memory. */
+static int look_beside(struct session *session, struct prepared *prepared) {
+    if (prepared->beside != NULL)
+        return 1;
+    prepared->beside = allocate((uint64_t)prepared->parameters * sizeof *prepared->beside);
+    if (prepared->beside != NULL)
+        types_of_parameters(session->database, prepared->text, prepared->beside, prepared->parameters);
+    return prepared->beside != NULL;
+}
+
 static enum outcome read_values(struct portal *portal, struct reader *reader, struct failure *failure) {
     struct prepared *of = portal->of;
     uint8_t formats[MOST_PARAMETERS] = {0};
@@ -228,7 +247,7 @@ static enum outcome read_values(struct portal *portal, struct reader *reader, st
     for (int i = 0; i < of->parameters; i++) {
         uint32_t count;
         const uint8_t *bytes = read_value(reader, &count);
-        portal->values[i] = (struct value){of->types[i], formats[i], bytes, count};
+        portal->values[i] = (struct value){formats[i] ? type_of_parameter(of, i) : of->types[i], formats[i], bytes, count};
     }
     return reader->is_short ? malformed(failure) : ENDED;
 }
@@ -364,7 +383,7 @@ static void say_types(struct text *out, const struct prepared *prepared) {
     uint32_t at = message_begin(out, 't');
     add_16(out, (uint32_t)prepared->parameters);
     for (int i = 0; i < prepared->parameters; i++)
-        add_32(out, prepared->types[i] == 0 ? TEXT : prepared->types[i]);
+        add_32(out, type_of_parameter(prepared, i));
     message_end(out, at);
 }
 
@@ -414,6 +433,8 @@ enum outcome take_describe(struct session *session, struct extended *extended, s
         struct prepared *prepared = statement_of(extended, name);
         if (prepared == NULL)
             return refuse(failure, "26000", "there is no prepared statement of this name");
+        if (!look_beside(session, prepared))
+            return no_memory(failure);
         say_types(&session->out, prepared);
         return tell_columns(&session->out, prepared, NULL, failure);
     }

@@ -16,7 +16,7 @@ static int has_word(const char *declared, const char *word) {
 }
 
 /* The rules are those of affinity, https://sqlite.org/datatype3.html. */
-static uint32_t type_of_declaration(const char *declared) {
+uint32_t type_of_declaration(const char *declared) {
     if (declared == NULL || *declared == '\0')
         return TEXT;
     if (has_word(declared, "INT"))

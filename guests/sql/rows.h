@@ -18,7 +18,8 @@ struct columns {
     int is_changed;        /* there are other columns than at the beginning: the tables have changed */
 };
 
-/* The type by which a column was declared. */
+/* The type of a declaration, as in CREATE TABLE, which may be NULL; and that by which a column was declared. */
+uint32_t type_of_declaration(const char *declared);
 uint32_t declared_type(sqlite3_stmt *prepared, int column);
 
 /* Begins an answer of a statement. */

@@ -10,8 +10,7 @@ static int is_letter(char c) { return ((c | 32) >= 'a' && (c | 32) <= 'z') || c 
 
 static int is_digit(char c) { return c >= '0' && c <= '9'; }
 
-/* After a string, a quoted name or a comment that begins here, or the same place. */
-static const char *after_quoted(const char *at) {
+const char *after_quoted(const char *at) {
     if (*at == '\'' || *at == '"' || *at == '`' || *at == '[') {
         char end = *at == '[' ? ']' : *at;
         for (at++; *at != '\0' && *at != end; at++)
@@ -30,8 +29,7 @@ static const char *after_quoted(const char *at) {
 
 static int is_comment(const char *at) { return (at[0] == '-' && at[1] == '-') || (at[0] == '/' && at[1] == '*'); }
 
-/* After blanks and comments. */
-static const char *after_blanks(const char *at) {
+const char *after_blanks(const char *at) {
     for (;;) {
         while (*at == ' ' || *at == '\n' || *at == '\t' || *at == '\r' || *at == '\f')
             at++;

@@ -33,6 +33,10 @@ struct statement {
 /* Reads the first statement of a text. */
 void read_statement(const char *text, struct statement *statement);
 
+/* After blanks and comments; and after a string, a quoted name or a comment that begins here, or the same place. */
+const char *after_blanks(const char *at);
+const char *after_quoted(const char *at);
+
 /* Whether there is nothing but blanks, comments and semicolons. */
 int is_blank(const char *text);
 

@@ -67,6 +67,44 @@ def parameters(client: Postgres) -> Iterator[tuple[str, str | None]]:
     yield "mixed in binary", differs([code, client.execute("SELECT 1 UNION ALL SELECT 2.5").rows], ["42804", [(1.0,), (2.5,)]])
 
 
+BOTH = "CREATE TABLE both(id INTEGER PRIMARY KEY, name VARCHAR(20), price DECIMAL(8, 2), bytes BLOB, any, \"odd name\" INT)"
+# A statement, and the types of its parameters that a client is told who names none.
+BESIDE = [
+    ("SELECT * FROM both WHERE id = $1", [INT8]), ("SELECT * FROM both WHERE $1 = id", [INT8]), ("SELECT $1", [TEXT]),
+    ("SELECT * FROM both AS b WHERE b.id=$1 AND b.name <> $2", [INT8, TEXT]), ("SELECT CAST($1 AS INTEGER)", [INT8]),
+    ("SELECT CAST($1 AS double precision), $2::bigint, $3::text", [FLOAT8, INT8, TEXT]), ("SELECT 1 LIMIT $1 OFFSET $2", [INT8, INT8]),
+    ("SELECT * FROM both WHERE id IN ($1, $2) OR name IN ($3)", [INT8, INT8, TEXT]),
+    ("SELECT * FROM both WHERE \"odd name\" >= $1", [INT8]),
+    ("SELECT * FROM both WHERE id NOT BETWEEN $1 AND $2 AND name = $3", [INT8, INT8, TEXT]), ("SELECT * FROM both WHERE any = $1", [TEXT]),
+    ("INSERT INTO both VALUES($1, $2, $3, $4, $5, $6)", [INT8, TEXT, FLOAT8, BYTEA, TEXT, INT8]),
+    ("INSERT INTO both(price, id) VALUES($1, $2), ($3, max($4, 1))", [FLOAT8, INT8, FLOAT8, TEXT]),
+    ("INSERT INTO main.both AS b (name, bytes) VALUES(/* , */ $2, $1) ON CONFLICT(id) DO UPDATE SET price = $3", [BYTEA, TEXT, FLOAT8]),
+    ("UPDATE both SET price = price + $1, name = $2 WHERE id = $3", [FLOAT8, TEXT, INT8]), ("DELETE FROM both WHERE id <= $1", [INT8]),
+    ("SELECT * FROM u, both WHERE price > $1 AND u.a = $2", [FLOAT8, INT8]), ("SELECT * FROM both WHERE name LIKE $1", [TEXT]),
+    ("SELECT * FROM u JOIN both ON both.id = u.a WHERE both.id IS NOT $1", [INT8]), ("SELECT 'id = $1', $1", [TEXT]),
+    ("WITH c AS (SELECT * FROM both WHERE id = $1) SELECT * FROM c WHERE name = $2", [INT8, TEXT]), ("SELECT $2", [TEXT, TEXT]),
+]
+
+
+def beside(client: Postgres) -> Iterator[tuple[str, str | None]]:
+    """A parameter has the type of what stands beside it, where the client names none."""
+    client.ask(BOTH)
+    for sql, wanted in BESIDE:
+        client.send(parse("", sql) + describe(b"S") + SYNC)
+        types = []
+        while (came := client.receive())[0] != b"Z":
+            types = list(struct.unpack(f">{(len(came[1]) - 2) // 4}I", came[1][2:])) if came[0] == b"t" else types
+        yield f"the types of {sql}", differs(types, wanted)
+    client.send(parse("", "SELECT id FROM both WHERE id = $1", (INT4,)) + describe(b"S") + SYNC)
+    told = [body for kind, body in iter(client.receive, (b"Z", b"I")) if kind == b"t"]
+    yield "a type that is named stays", differs(told, [struct.pack(">HI", 1, INT4)])
+    client.ask("INSERT INTO both(id, name) VALUES(7, 'seven')")
+    client.send(parse("", "SELECT name FROM both WHERE id = $1") + describe(b"S") + bind("", "", (struct.pack(">q", 7),), True)
+                + execute() + SYNC)
+    yield "and its value in binary is read so", differs(client.results()[0].rows, [("seven",)])
+    client.ask("DROP TABLE both")
+
+
 def flows(client: Postgres) -> Iterator[tuple[str, str | None]]:
     yield "an empty one", differs(kinds(client, parse("", "") + bind("", "") + describe(b"P") + execute() + SYNC), "12nIZ")
     yield "a statement is described", differs(kinds(client, parse("s", "SELECT a FROM t WHERE a > $1") + describe(b"S", "s") + SYNC),
@@ -174,7 +212,7 @@ def several(client: Postgres) -> Iterator[tuple[str, str | None]]:
     yield "over several messages", differs([kinds(client, other), client.rows("SELECT count(*) FROM t WHERE a = 44")], ["12EZ", [(0,)]])
 
 
-def beside(served: Served, client: Postgres) -> Iterator[tuple[str, str | None]]:
+def waiting(served: Served, client: Postgres) -> Iterator[tuple[str, str | None]]:
     """One that waits for a lock goes on where it stood."""
     from tests.sql.simple import later
     other = Postgres(served.postgres)
@@ -201,9 +239,10 @@ def tests(built: Built) -> Iterator[tuple[str, str | None]]:
             client = Postgres(served.postgres)
             client.ask(START)
             yield from parameters(client)
+            yield from beside(client)
             yield from flows(client)
             yield from several(client)
             yield from ends(client)
             yield from pipelined(client)
-            yield from beside(served, client)
+            yield from waiting(served, client)
         yield from passwords(built, room)

@@ -19,7 +19,7 @@ FILES = ["vfs", "locks", "turns", "database"]
 SANITIZERS = ["-g", "-fsanitize=address,undefined", "-fno-sanitize-recover=all"]
 UNITS = ["digest", "locks", "statement", "request"]
 SESSIONS = ["text", "log", "settings", "patterns", "functions", "digest", "password", "scram", "statement", "session", "work", "query",
-            "rows", "messages", "parameters", "trigger", "extended", "postgres", "request", "table", "page", "door", "http"]
+            "rows", "messages", "parameters", "types", "trigger", "extended", "postgres", "request", "table", "page", "door", "http"]
 HOSTS = ["disk", "stacks"]  # what the guest has otherwise
 
 

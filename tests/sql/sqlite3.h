@@ -147,6 +147,7 @@ void sqlite3_result_error_code(sqlite3_context *, int);
 void sqlite3_result_error_nomem(sqlite3_context *);
 void sqlite3_result_error_toobig(sqlite3_context *);
 
+int sqlite3_table_column_metadata(sqlite3 *, const char *, const char *, const char *, const char **, const char **, int *, int *, int *);
 int sqlite3_complete(const char *);
 int sqlite3_prepare_v2(sqlite3 *, const char *, int, sqlite3_stmt **, const char **);
 int sqlite3_step(sqlite3_stmt *);
