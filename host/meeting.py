@@ -137,6 +137,9 @@ class Meeting:
         """Of one life the later generation goes on, and the other host is frozen. Of two lives neither gives way."""
         host, name = self.host, hello["name"]
         mine, other = host.generation, hello["generation"]
+        if host.is_handing_over and hello["life"] == host.life and other > mine:
+            host.task.is_live()
+            return self.refuse(connection, "this host has handed its guest on", "debug")
         if host.live.is_stopped:
             return self.refuse(connection, "this host is busy: a drain is under way", "debug")
         if hello["life"] != host.life or other == mine:
@@ -158,7 +161,9 @@ class Meeting:
         told = fields(kind, body)
         role = "live" if kind == OVER else told["role"]
         self.is_told(role, now)
-        if kind == OVER and not self.host.live.is_stopped:
+        if kind == OVER and self.host.is_handing_over:
+            self.host.task.is_live()
+        elif kind == OVER and not self.host.live.is_stopped:
             self.give_way(f"{told['name']} is live too, and {told['why']}")
         elif role == "live":
             self.conflict.is_so(f"two hosts are live, this one and {told['name']}, which answers: {told['why']}", "error")

@@ -59,7 +59,7 @@ class Drain:
             self.is_told, self.told_over = True, link.connection
             link.send(go_live(self.live.session, self.live.generation, self.last), now)
 
-    # What the standby answers.
+    # What the standby answers, or says where it comes or is called over another link: that it lives in a later generation of this guest.
 
     def is_live(self) -> None:
         self.finish("the standby has all, and is live")
