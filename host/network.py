@@ -158,9 +158,10 @@ class Tap(Quiet):
         """Makes the tap anew, or takes the one that somebody else has made anew; has it on its bridge, and up. One that was there before
         this daemon isn't made anew: whoever made it knows where it belongs."""
         try:
-            if not self.is_attached():
+            is_there = self.interfaces.find(self.name) is not None
+            if not is_there or not self.is_attached():  # else it may be in another namespace, or have another name
                 self.leave()
-                if not self.is_made_here and self.interfaces.find(self.name) is None:
+                if not is_there and not self.is_made_here:
                     return
                 self.open()
             self.switch(self.is_up)
