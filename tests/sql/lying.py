@@ -4,6 +4,7 @@ from __future__ import annotations
 
 import base64
 import random
+import re
 import struct
 import tempfile
 from collections.abc import Callable, Iterator
@@ -13,7 +14,7 @@ from tests.postgres import bind, message, parse, string
 from tests.sql.host import Built, Fed
 from tests.sql.units import differs
 
-POSTGRES = 5432
+POSTGRES, HTTP = 5432, 80
 RUNS = 500  # conversations of each stage
 GOOD, LIAR = 0, 1  # places
 LIES = [0, 1, 2, 3, 4, 5, 7, 8, 9, -1, -2, -3, -4, -5, 0x7FFFFFFF, -0x80000000, -0x7FFFFFFC, 255, 256, 65535, 65536, 262143, 262144, 262145]
@@ -172,6 +173,50 @@ def fed_alone(built: Built, disk: Path, password: str, act: Callable[[Fed], str 
         return act(fed)
 
 
+REQUESTS = [
+    b"POST /sql HTTP/1.1\r\nHost: a\r\nContent-Length: 8\r\n\r\nSELECT 7", b"GET /sql?q=SELECT+7&format=json HTTP/1.1\r\nHost: a\r\n\r\n",
+    b"POST /sql HTTP/1.1\r\nContent-Type: application/x-www-form-urlencoded\r\nContent-Length: 12\r\n\r\nq=SELECT+%37",
+    b"GET / HTTP/1.1\r\nOrigin: https://a:443\r\nHost: a\r\nAuthorization: Basic bWU6d3Jvbmc=\r\nReferer: http://a/\r\n\r\n",
+    b"PUT /sql HTTP/1.1\r\nExpect: 100-continue\r\nContent-Length: 4\r\n\r\nx\r\n\r",
+    b"HEAD /log HTTP/1.0\r\nConnection: keep-alive\r\n\r\n",
+]
+
+
+def broken(rng: random.Random, request: bytes) -> bytes:
+    """A request of which some bytes are others, gone, or there twice, or whose length isn't so."""
+    for _ in range(rng.randrange(1, 4)):
+        at, kind = rng.randrange(len(request)), rng.randrange(4)
+        if kind == 0:
+            request = request[:at] + bytes([rng.choice(b"\r\n\0 :=%&?/\xff\t09")]) + request[at + 1:]
+        elif kind == 1:
+            request = request[:at] + request[at + rng.randrange(1, 8):]
+        elif kind == 2:
+            request = request[:at] + request[max(0, at - rng.randrange(40)):]
+        else:
+            request = re.sub(rb"Length: -?\d+", b"Length: %d" % rng.choice([*LIES, 10 ** 20]), request)
+        request = request or b"x"
+    return request
+
+
+def requests(fed: Fed) -> str | None:
+    """Broken requests; a client that is right is answered after each."""
+    rng = random.Random(5)
+    fed.tell("open", GOOD, HTTP)
+    for run in range(RUNS):
+        data, is_there, said = b"".join(broken(rng, rng.choice(REQUESTS)) for _ in range(rng.randrange(1, 4))), True, b""
+        fed.tell("open", LIAR, HTTP)
+        while data and is_there:
+            count = rng.choice([1, 30, len(data), len(data)])
+            is_there, more = fed.tell("take", LIAR, data[:count].hex())
+            data, said = data[count:], said + more
+        said += fed.tell("end", LIAR)[1]
+        wrong = None if said == b"" or said.startswith(b"HTTP/1.1 ") else f"it said {said[:100]!r}"
+        wrong = wrong or differs(fed.tell("take", GOOD, REQUESTS[1].hex())[1][:15], b"HTTP/1.1 200 OK")
+        if wrong:
+            return f"run {run}: {wrong}"
+    return None
+
+
 def tried(act: Callable[[], str | None]) -> str | None:
     try:
         return act()
@@ -184,7 +229,7 @@ def tests(built: Built) -> Iterator[tuple[str, str | None]]:
     with tempfile.TemporaryDirectory() as folder:
         room = Path(folder)
         for name, password, act in [("26 bytes without the password", "secret", hidden_length), ("75,000 messages at once", "", many),
-                                    ("a portal of fewer columns", "", wider)]:
+                                    ("a portal of fewer columns", "", wider), (f"{RUNS} connections of broken requests", "", requests)]:
             yield name, tried(lambda: fed_alone(built, room / "alone", password, act))
         for name, (password, parts) in STAGES.items():
             yield (f"{RUNS} conversations with a length that isn't so, in {name} ({checked})",
