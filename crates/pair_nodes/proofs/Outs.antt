@@ -70,7 +70,7 @@ pub let-out : (out : Output) (fs held sent more held' sent' : List Frame) → Ar
 let-out out fs held sent more held' sent' a h s =
     ap (λ t. frames_in out.before ++ t) (append_assoc out.now fs held') ∙ more-held out held sent more (fs ++ held') sent' a h s
 
-frames_in-push : (ts : List Turn) (t : Turn) → frames_in (ts ++ t ∷ []) ≡ frames_in ts ++ (t.let_out ++ t.lost)
+pub frames_in-push : (ts : List Turn) (t : Turn) → frames_in (ts ++ t ∷ []) ≡ frames_in ts ++ (t.let_out ++ t.lost)
 frames_in-push [] t = ap (λ fs. t.let_out ++ fs) (append-nil t.lost)
 frames_in-push (u ∷ ts) t =
     ap (λ fs. u.let_out ++ (u.lost ++ fs)) (frames_in-push ts t)

@@ -14,3 +14,4 @@ pub mod Names
 pub mod Matching
 pub mod Serving
 pub mod Halves
+pub mod Handing

@@ -1,19 +1,22 @@
 //! What two nodes do is what a pair does.
-ghost use Rattle.std.specs.Prelude.{◌≡◌, ◌≢◌, ◌<◌, ◌+◌, ℕ, List, [], ◌∷◌};
+ghost use Rattle.std.specs.Prelude.{◌≡◌, ◌≢◌, ◌<◌, ◌≤◌, ◌+◌, ℕ, List, [], ◌∷◌};
 ghost use Rattle.checkpoint_stream.specs.Readings.{begun, fed};
 ghost use Rattle.checkpoint_stream.specs.Sound.{change_in};
 ghost use Rattle.checkpoint_stream.specs.declared.place.Place.TheVariants.{Whole};
 ghost use Rattle.frame_ports.specs.Limits.{number_limit};
 ghost use Rattle.guest_rules.specs.declared.shapes.Shape.{Shape};
+ghost use Rattle.output_gate.specs.Epochs.{Epoch};
 ghost use Rattle.pair_core.specs.Nodes.{read_as};
 ghost use Rattle.pair_core.specs.Pair.{Pair};
 ghost use Rattle.pair_history.specs.Entries.{Frame};
 ghost use Rattle.pair_history.specs.HistoryState.{start_state};
 ghost use Rattle.pair_nodes.specs.Frames.{AreOut, GoesOnFrom, NoneGoesLive, NoneIsHeardBeyond, out_to, sent_since};
+ghost use Rattle.pair_nodes.specs.Handing.{IsCaughtUp, all_let_out, handed_over, handed_site, turned, turned_site};
 ghost use Rattle.pair_nodes.specs.Names.{OneNameOneText};
 ghost use Rattle.pair_nodes.specs.Matching.{Matches, IsServed, HasRoom};
 ghost use Rattle.pair_nodes.specs.Serving.{AreOneGuest, GoesOn, Reach, lone_start, start_moment, start_site};
 ghost use Rattle.pair_nodes.specs.Runs.{Begin, Premises, Run, Call, adds, calls_by};
+ghost use Rattle.pair_nodes.specs.Sides.{IsFull, Primary, Standby, after_ack, after_alone, live_of};
 ghost use Rattle.pair_nodes.specs.Sites.{Site, Happening, Happens, cuts, goes_alone, hear_site};
 
 /// The service that two nodes are for. Over every run of a primary and a standby, with every message between them lost, repeated or got in
@@ -50,6 +53,29 @@ pub fn what_is_let_out_reads_so()
         → AreOut (record { before = record { let_out = a ∷ []; lost = [] } ∷ []; now = a ∷ [] }) [] (a ∷ []) → ⊥ }
     ensures unsent { (a : Frame) → AreOut (record { before = []; now = a ∷ [] }) [] [] → ⊥ }
     ensures order { (a b : Frame) → a ≢ b → AreOut (record { before = []; now = b ∷ a ∷ [] }) [] (a ∷ b ∷ []) → ⊥ }
+{}
+
+/// A primary whose epoch has just been cut turns twice: it goes alone, protects, goes alone and protects. It is then the primary that a
+/// standby becomes which has committed that cut, goes live and protects. So the full checkpoint of the new generation can be made of what
+/// that standby has, and none needs to come from the primary.
+pub fn turning_twice_is_handing_over()
+    // Each text of the full checkpoint of the one is one of the other.
+    ensures text { (p : Primary) (b : Standby) (t u : List ℕ) → IsCaughtUp p b
+        → (IsFull (live_of b) u → IsFull (after_alone (turned p t)) u) × (IsFull (after_alone (turned p t)) u → IsFull (live_of b) u) }
+    // With the same text both are the same primary: what the one does then, and each text that it cuts, the other may do and cut.
+    ensures same { (p : Primary) (b : Standby) (t u : List ℕ) → IsCaughtUp p b → turned (turned p t) u ≡ handed_over b u }
+    // One turn is too few.
+    ensures once { (p : Primary) (b : Standby) (t : List ℕ) → IsCaughtUp p b → turned p t ≡ handed_over b t → ⊥ }
+    // And which text it kept is nothing of what it is once that checkpoint is acknowledged, with others behind it or without.
+    ensures given_up { (p : Primary) (first : Epoch) (later : List Epoch) (t u : List ℕ) (texts : List (List ℕ)) (n : ℕ) → first.number ≤ n
+        → after_ack (record p { pending = first ∷ later; texts = t ∷ texts }) n
+        ≡ after_ack (record p { pending = first ∷ later; texts = u ∷ texts }) n }
+    // Where all was heard of, all that a run goes on from is the same, the messages and the network too, but that a failover ends a turn of
+    // what was let out; and what was let out in all is the same.
+    ensures site { (s : Site) (t u : List ℕ) → IsCaughtUp s.primary s.standby → s.primary.pending ≡ []
+        → record (turned_site (turned_site s t) u) { out = s.out } ≡ record (handed_site s u) { out = s.out } }
+    ensures out { (s : Site) (t u : List ℕ) → IsCaughtUp s.primary s.standby → s.primary.pending ≡ []
+        → all_let_out (turned_site (turned_site s t) u).out ≡ all_let_out (handed_site s u).out }
 {}
 
 /// In whatever pieces a text comes: what stands whole of it reads as the text that was sent.
