@@ -148,7 +148,7 @@ class Daemon:
 
     def start(self, live):
         """The guest runs from now on, and bridges learn where it is."""
-        self.kept.goes_live()
+        self.kept.goes_live(live.generation)
         self.live = live
         self.network.up()
         self.network.put(network.announcement(self.settings.guest_address))

@@ -35,7 +35,8 @@ class Meeting:
         self.said_role, session = host.role, host.session.hex() if host.session else None
         return messages.told(HELLO, NO_SESSION, version=messages.VERSION, name=host.settings.name, instance=host.instance,
                              role=host.role, life=host.life if host.role != "empty" else None, generation=host.generation,
-                             session=session, full=host.full, committed=host.standby.committed if host.standby else None)
+                             session=session, full=host.full, committed=host.standby.committed if host.standby else None,
+                             **host.kept.told_to_peer())
 
     def hear(self, connection, kind, session, body, now):
         """A message over a connection that isn't attached."""

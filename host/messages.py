@@ -94,6 +94,10 @@ FIELDS = {
 }
 
 
+# What a greeting has besides, where its host keeps logs: logs of that life up to that generation are stale.
+BESIDES = {"outlived_life": TEXTUAL, "outlived_generation": NUMBERS}
+
+
 def fields(kind, body):
     """The JSON object of a body, with the fields of its kind and no other."""
     try:
@@ -101,6 +105,8 @@ def fields(kind, body):
     except (ValueError, RecursionError):
         raise Malformed("a body that isn't JSON") from None
     wanted = FIELDS[kind]
+    if isinstance(found, dict) and kind == HELLO and found.keys() & BESIDES.keys():
+        wanted = wanted | BESIDES
     if not isinstance(found, dict) or found.keys() != wanted.keys():
         raise Malformed("a body without its fields")
     for name, value in found.items():

@@ -1,4 +1,5 @@
-"""The state folder: what must outlive the daemon is one file, which says that a guest was booted or held here."""
+"""The state folder: what must outlive the daemon. One file says that a guest was booted or held here, and one, where logs are kept, up to
+which generation logs of a guest are outlived by what this host has let out since."""
 import fcntl
 import json
 import os
@@ -12,7 +13,7 @@ class State:
     def __init__(self, folder):
         self.folder = Path(folder)
         self.folder.mkdir(parents=True, exist_ok=True)
-        self.file = self.folder / "life.json"
+        self.file, self.outlived = self.folder / "life.json", self.folder / "outlived.json"
         self.lock = open(self.folder / "lock", "w")
         try:
             fcntl.flock(self.lock, fcntl.LOCK_EX | fcntl.LOCK_NB)
@@ -26,6 +27,19 @@ class State:
     def keep(self, life, generation, how):
         """Writes down that this life was here; it is on the disk when this returns."""
         written(self.file, json.dumps({"life": life, "generation": generation, "how": how, "at": time.time()}).encode() + b"\n")
+
+
+    def outlive(self, life: str, generation: int) -> None:
+        """Writes down that this host lets out what no log of this life has that is of this generation or an earlier one."""
+        written(self.outlived, json.dumps({"life": life, "generation": generation}).encode() + b"\n")
+
+    def outlives(self) -> tuple[str | None, int]:
+        """The life and the generation that were written down so last; a file that can't be read says nothing."""
+        try:
+            found = json.loads(self.outlived.read_bytes())
+            return str(found["life"]), int(found["generation"])
+        except (OSError, ValueError, KeyError, TypeError):
+            return None, 0
 
 
 def written(path, data):

@@ -162,6 +162,7 @@ class Verbs:
         if standby is not None and has is not None and has[1] != standby:
             return refusal("OtherStandby", f"the standby here is {has[1]}")
         host.link.close()
+        host.kept.outlives(host.live.generation)
         host.live.alone(time.monotonic())
         host.log.info(f"alone in generation {host.generation}, as it was told")
         return self.did("this host goes on alone")

@@ -1,5 +1,5 @@
-"""Disks under the log of a daemon that tests start by tests/host_on_disk: one that is full or fails while a test says so, and one that keeps
-account of what isn't synced, so that a test can lose that after the daemon was killed, as a power cut does."""
+"""Disks under the log of a daemon that tests start by tests/host_on_disk: one that is full or fails while a test says so, and one that
+keeps account of what isn't synced, so that a test can lose that after the daemon was killed, as a power cut does."""
 import errno
 import os
 import random

@@ -18,8 +18,8 @@ Job = tuple[Callable[..., None], ...]
 
 
 class Keeper:
-    """`reached` is (session, generation, number): of that attachment all up to there is on the disk. `failed` is why nothing more is written,
-    if so. The methods of the loop give what is to be done, and answer at once."""
+    """`reached` is (session, generation, number): of that attachment all up to there is on the disk. `failed` is why nothing more is
+    written, if so. The methods of the loop give what is to be done, and answer at once."""
 
     def __init__(self, disk: Disk, folder: Path) -> None:
         self.disk, self.folder = disk, Path(folder)

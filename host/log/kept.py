@@ -174,15 +174,30 @@ class Kept:
         self.keeper.over()
         self.found = None
 
-    def goes_live(self) -> None:
+    def outlives(self, generation: int) -> None:
+        """This host is about to let out what no log has: the peer is told so when they meet, whatever becomes of this daemon."""
+        if self.keeps:
+            try:
+                self.host.state.outlive(self.host.life, generation)
+            except OSError as error:
+                self.host.log.error(f"it can't be written into {self.host.state.folder} that logs up to generation {generation} are stale, "
+                                    f"{error.strerror}: promote no log of that guest")
+
+    def goes_live(self, generation: int) -> None:
         """The guest runs here from now on, of which no log is written: before anything of it is let out, what is here is over."""
         self.found = None
+        self.outlives(generation)
         if not self.disk.names(self.folder):
             return
         self.keeper.end_all()
         if not self.keeper.finish(WAIT):
             self.host.log.error(f"it can't be written into the log in {self.folder} that it is over: remove that folder before this daemon "
                                 "is started again, since what it holds is stale")
+
+    def told_to_peer(self) -> dict:
+        """What a greeting says besides: up to which generation logs of a life are stale, where this host keeps logs and knows of one."""
+        life, generation = self.host.state.outlives() if self.keeps else (None, 0)
+        return {} if life is None else {"outlived_life": life, "outlived_generation": generation}
 
     # Before a promotion.
 
@@ -207,7 +222,15 @@ class Kept:
             if theirs > mine:
                 upto = "" if theirs[1] == MORE else f" up to checkpoint {theirs[1]}"
                 return "Stale", f"{peer['name']} holds generation {theirs[0]} of this guest{upto}, and this host {mine[0]} up to {mine[1]}"
-        return None
+        return None if without_peer else self.outlived()
+
+    def outlived(self) -> tuple[str, str] | None:
+        """Where the peer has let out more than the log has, and lost it."""
+        peer, found = self.peer, self.found
+        if peer.get("outlived_life") != found.head.life or peer.get("outlived_generation", 0) < found.generation:
+            return None
+        return "Stale", (f"{peer['name']} went on alone behind this log, in generation {peer['outlived_generation']}, and holds nothing of "
+                         "that any more; what clients were given since then is taken back by --without-peer")
 
     # What is told.
 
@@ -231,8 +254,8 @@ class Kept:
         except OSError:
             return
         if (is_low := room < LOW) and not self.is_low:
-            self.host.log.warning(f"the disk of {self.folder} has {room // MEBIBYTE} MiB left: once it is full, this host is no standby any "
-                                  "more")
+            self.host.log.warning(f"the disk of {self.folder} has {room // MEBIBYTE} MiB left: once it is full, this host is no standby "
+                                  "any more")
         self.is_low = is_low
 
     def close(self) -> None:
