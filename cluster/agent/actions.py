@@ -363,7 +363,7 @@ class Pair:
             raise Failure(NOT_RUNNING, "remus-host ended while it booted the guest")
         if not answer.get("ok"):
             self.cluster.delete_life()  # nothing was booted
-            code = GENERIC if answer.get("refused") in ("NotEmpty", "Busy") else INSTALLED
+            code = GENERIC if answer.get("refused") in ("NotEmpty", "Busy", "PeerIsLive") else INSTALLED
             raise Failure(code, f"remus-host refused to boot the guest: {answer.get('why', answer)}")
 
     def demote(self) -> int:
