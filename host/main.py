@@ -16,7 +16,7 @@ TEXT = """The daemon of one host of a pair.
     remus-host run --config FILE       runs the daemon
     remus-host check --config FILE     checks a configuration, and does no more
     remus-host keys FOLDER NAME        makes NAME.key and NAME.crt for the link; with --renew and --switch renews them
-    remus-host log list|check          shows or checks a standby's log
+    remus-host log list|check|export   shows or checks a standby's log, or makes a snapshot of it
     remus-host ctl VERB                asks a daemon that runs: status, promote, alone, drain, demote, save, metrics
 
 docs/OPERATE.md says what each does, key by key and verb by verb."""

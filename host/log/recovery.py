@@ -1,5 +1,5 @@
 """A node made of what a log holds: a standby that stands where the log ends."""
-from collections.abc import Callable, Iterable
+from collections.abc import Callable, Iterable, Iterator
 from pathlib import Path
 
 from host.log.disk import Disk
@@ -61,14 +61,9 @@ def handed_over(node: Node, command: list[str], head: Head, generation: int, sin
             raise Rotten(f"{generation}.log stands on a log after which generation {made} comes")
         other = Node(command)
         other.ask(f"standby {head.pages} {head.sectors} {generation}")
-        for _ in range(looks(head.pages)):
-            node.ask(LOOK)
-        begin, is_last = 0, False
-        while not is_last:
-            data, is_last = text_from(node, 0, begin)
+        for data in full_text(node, head.pages):
             feed(other, data)
             sink(data)
-            begin += len(data)
         committed(other.ask("commit"), generation, 0)
         node.close()
         return other
@@ -76,6 +71,17 @@ def handed_over(node: Node, command: list[str], head: Head, generation: int, sin
         if other is not None:
             other.close()
         raise
+
+
+def full_text(node: Node, pages: int) -> Iterator[bytes]:
+    """The text of the full checkpoint that is pending, piece by piece. Raises Refused."""
+    for _ in range(looks(pages)):
+        node.ask(LOOK)
+    begin, is_last = 0, False
+    while not is_last:
+        data, is_last = text_from(node, 0, begin)
+        yield data
+        begin += len(data)
 
 
 def feed(node: Node, data: bytes) -> None:

@@ -1,0 +1,33 @@
+"""A snapshot of what a log holds: the guest as it was at the log's end, also where the log is over."""
+from pathlib import Path
+
+from host.files import WholeFile
+from host.log.disk import Disk
+from host.log.reading import Found
+from host.log.recovery import full_text, recovered
+from host.node import Refused
+from host.snapshot import Header, check_replaced
+
+
+def export(disk: Disk, folder: Path, found: Found, command: list[str], path: str) -> int:
+    """Puts the snapshot in its place as a whole, and answers its bytes. Raises Rotten, LogBehind, OSError, NodeEnded, Refused."""
+    check_replaced(path)
+    whole, node, header = WholeFile(path), None, Header()
+    try:
+        whole.file.write(header.room())
+        node = recovered(command, disk, folder, found)
+        node.ask("golive")
+        node.ask("protect")
+        for data in full_text(node, found.head.pages):
+            header.take(data)
+            whole.file.write(data)
+        whole.file.seek(0)
+        whole.file.write(header.spelled())
+        whole.place()
+    except BaseException:
+        whole.discard()
+        raise
+    finally:
+        if node is not None:
+            node.close()
+    return len(header.room()) + header.count
