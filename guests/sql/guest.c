@@ -15,6 +15,8 @@
    where there are no more the page goes that was used longest ago, whosever it was. */
 #ifndef HEAP
 #define HEAP (12u << 20)
+#endif
+#ifndef CACHE
 #define CACHE (6u << 20)
 #endif
 #define PAGE 4096
