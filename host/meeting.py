@@ -179,7 +179,7 @@ class Meeting:
         """The peer says what it is."""
         self.peer_role = role
         if role == "live":
-            self.live_at = now
+            self.live_at = None if self.link.is_up else now  # over an attached link it says so all the time
         else:
             self.live_at = None
             self.conflict.is_over("one host is live, not two")
