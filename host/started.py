@@ -57,7 +57,7 @@ class Host:
 
     def __init__(self, folder, name, namespace=None, **settings):
         self.folder, self.name, self.namespace = Path(folder), name, namespace
-        self.program = ROOT / "remus-host"
+        self.program, self.environment = ROOT / "remus-host", None  # None: this process's
         self.control, self.process = str(self.folder / f"{name}.control"), None
         self.errors = None  # a descriptor that its log is written to, in place of a file
         self.settings = {"name": name, "state": str(self.folder / f"state_{name}"), "control": self.control} | settings
@@ -73,7 +73,7 @@ class Host:
             command = ["ip", "netns", "exec", self.namespace, *command]
         with open(self.folder / f"{self.name}.log", "ab") as log:
             self.process = subprocess.Popen([str(word) for word in command], stdin=subprocess.DEVNULL, stdout=log,
-                                            stderr=log if self.errors is None else self.errors, start_new_session=True)
+                                            stderr=log if self.errors is None else self.errors, start_new_session=True, env=self.environment)
         self.wait(lambda status: True)
         return self
 
