@@ -5,7 +5,6 @@ import os
 import re
 import signal
 import socket
-import subprocess
 import sys
 import tempfile
 import threading
@@ -62,7 +61,8 @@ class Trial:
             with open(self.cluster / "properties" / name, "a") as file:
                 file.write(value + "\n")
         for name, value in [("score", score), ("state", state), ("next", then), ("score.h2", elsewhere),
-                            *((f"broken/{name}", "") for name in broken), *((f"given_up/{node}", value) for node, value in (given_up or {}).items())]:
+                            *((f"broken/{name}", "") for name in broken),
+                            *((f"given_up/{node}", value) for node, value in (given_up or {}).items())]:
             if value is not None:
                 (self.cluster / name).write_text(value + "\n")
         self.clone = CLONE if clone is None else clone

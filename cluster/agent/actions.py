@@ -145,8 +145,8 @@ class Pair:
         return self.monitor_unpromoted(status)
 
     def leave_alone(self, why: str) -> int:
-        """The daemon runs and can't be asked, and no other host has the guest: to end it would surely end that. A live host keeps its score;
-        what else is here mustn't be promoted meanwhile."""
+        """The daemon runs and can't be asked, and no other host has the guest: to end it would surely end that. A live host keeps its
+        score; what else is here mustn't be promoted meanwhile."""
         is_promoted = meta("role") not in AS_STANDBY
         if not is_promoted:
             self.cluster.publish(None)
@@ -272,7 +272,7 @@ class Pair:
 
     def was_promoted_by_hand(self) -> bool:
         """Whether Pacemaker takes this live host for a standby, and nobody else is live. Pacemaker would stop it if it were told so; by its
-        score it promotes it. That another host is live its score says for a while after it has handed the guest on, until its own monitor."""
+        score it promotes it. Another host's score says for a while that it is live, after it has handed the guest on: until its monitor."""
         if meta("role") not in AS_STANDBY or self.cluster.best_score_elsewhere() <= SCORE_FULL:
             forget(self.two_live)
             return meta("role") in AS_STANDBY
@@ -406,8 +406,8 @@ class Pair:
             raise Failure(GENERIC, f"the guest doesn't go on alone. {unsafe}")
 
     def other_is_live(self) -> None:
-        """A guest that was stopped here and has gone on there, or a checkpoint of another guest, is of no use any more: this host has to begin
-        anew. One that is alone with its guest, and by the property in the last generation, keeps it: then it is the other one that is stale."""
+        """A guest that was stopped here and has gone on there, or a checkpoint of another guest, is of no use any more: this host has to
+        begin anew. One that is alone with its guest, and by the property in the last generation, keeps it: the other one is stale."""
         status = self.status()
         if status is None or status["role"] not in ("frozen", "standby"):
             return
