@@ -122,7 +122,8 @@ def run_daemon(found: settings.Settings, log: Log) -> int:
     try:
         daemon.run()
     except NodeEnded as error:
-        log.error(f"{error}: what this host held is gone")
+        is_logged = daemon.standby is not None and daemon.standby.logged is not None
+        log.error(f"{error}: what this host held is {'in its log' if is_logged else 'gone'}")
         return 1
     log.info("ended")
     return 0
