@@ -68,6 +68,12 @@ static int begins_with(struct part whole, struct part part) {
 /* Steps of a look at one place. */
 static uint32_t steps_of(struct part whole, struct part part) { return whole.bytes[0] == part.bytes[0] ? (uint32_t)part.length / 8 + 1 : 1; }
 
+/* How many bytes there are before the first that a part begins with. */
+static int before_first(struct part whole, struct part part) {
+    const uint8_t *at = memchr(whole.bytes, part.bytes[0], (size_t)whole.length);
+    return at == NULL ? whole.length : (int)(at - whole.bytes);
+}
+
 static void find(sqlite3_context *context, struct part whole, struct part part, int is_text) {
     struct patience patience = patience_of(context);
     int place = 1;
@@ -124,10 +130,11 @@ static void do_instr(sqlite3_context *context, int count, sqlite3_value **values
 static int64_t write_replaced(struct part whole, struct part part, struct part by, uint8_t *to, struct patience *patience) {
     int64_t length = 0;
     while (whole.length > 0) {
-        if (is_out_of_patience(patience, steps_of(whole, part)))
+        int until = before_first(whole, part);
+        if (is_out_of_patience(patience, until > 0 ? (uint32_t)until / 8 + 1 : steps_of(whole, part)))
             return -1;
-        int is_here = begins_with(whole, part), taken = is_here ? part.length : 1;
-        struct part given = is_here ? by : (struct part){whole.bytes, 1};
+        int is_here = until == 0 && begins_with(whole, part), taken = until > 0 ? until : is_here ? part.length : 1;
+        struct part given = is_here ? by : (struct part){whole.bytes, taken};
         if (to != NULL)
             memcpy(to + length, given.bytes, (size_t)given.length);
         length += given.length;

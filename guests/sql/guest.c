@@ -6,6 +6,7 @@
 #include "database.h"
 #include "log.h"
 #include "sqlite3.h"
+#include "turns.h"
 #include "vfs.h"
 
 /* The register that counts the machine's steps. */
@@ -25,6 +26,28 @@ uint64_t clock_steps(void) { return *(volatile uint64_t *)MTIME; }
 
 uint64_t clock_now(void) { return clock_steps() / STEPS_A_MILLISECOND; }
 
+/* SQLite asks for memory above all where it compiles, which has no operations: it looks after so many times whether the turn is over. */
+#define ASKED 16
+
+static sqlite3_mem_methods memory;
+
+static void *get(int count) {
+    static uint32_t asked;
+    if (++asked % ASKED == 0)
+        turn_look();
+    return memory.xMalloc(count);
+}
+
+static int config_memory(void) {
+    static uint8_t heap[HEAP] __attribute__((aligned(16)));
+    int said = sqlite3_config(SQLITE_CONFIG_HEAP, heap, (int)sizeof heap, 32);
+    if (said == SQLITE_OK)
+        said = sqlite3_config(SQLITE_CONFIG_GETMALLOC, &memory);
+    sqlite3_mem_methods looking = memory;
+    looking.xMalloc = get;
+    return said == SQLITE_OK ? sqlite3_config(SQLITE_CONFIG_MALLOC, &looking) : said;
+}
+
 /* SQLite asks for these where it has no file system of its own. */
 int sqlite3_os_init(void) { return vfs_register(); }
 
@@ -40,11 +63,10 @@ static int share_pages(void) {
 }
 
 int guest_start(void) {
-    static uint8_t heap[HEAP] __attribute__((aligned(16)));
     static uint8_t thread[64] __attribute__((aligned(16))); /* what picolibc has once a thread: errno */
     __asm__ volatile("mv tp, %0" ::"r"(thread));
-    if (sqlite3_config(SQLITE_CONFIG_HEAP, heap, (int)sizeof heap, 32) != SQLITE_OK || share_pages() != SQLITE_OK
-        || log_start() != SQLITE_OK || !vfs_start() || sqlite3_initialize() != SQLITE_OK)
+    if (config_memory() != SQLITE_OK || share_pages() != SQLITE_OK || log_start() != SQLITE_OK || !vfs_start()
+        || sqlite3_initialize() != SQLITE_OK)
         return 0;
     database_start();
     return 1;

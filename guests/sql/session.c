@@ -62,6 +62,7 @@ int session_open(struct session *session) {
         session->database = NULL;
         return 0;
     }
+    sqlite3_limit(session->database, SQLITE_LIMIT_LENGTH, MOST_VALUE_BYTES);
     sqlite3_progress_handler(session->database, OPERATIONS, is_stopped, session);
     return 1;
 }

@@ -14,6 +14,9 @@
 #define MOST_ASKED (256 * 1024)
 #define MOST_ANSWER (1024 * 1024)
 
+/* The most bytes of a value, and of a row: one call of a function of SQLite's takes as long as its value is. */
+#define MOST_VALUE_BYTES MOST_ASKED
+
 /* No question is taken while so many bytes of answers aren't sent. */
 #define MOST_UNSENT (16 * 1024)
 
