@@ -66,7 +66,9 @@ static int begins_with(struct part whole, struct part part) {
 }
 
 /* Steps of a look at one place. */
-static uint32_t steps_of(struct part whole, struct part part) { return whole.bytes[0] == part.bytes[0] ? (uint32_t)part.length / 8 + 1 : 1; }
+static uint32_t steps_of(struct part whole, struct part part) {
+    return whole.bytes[0] == part.bytes[0] ? (uint32_t)part.length / 8 + 1 : 1;
+}
 
 /* How many bytes there are before the first that a part begins with. */
 static int before_first(struct part whole, struct part part) {
@@ -251,9 +253,9 @@ int functions_make(struct session *session) {
         {"ltrim", 2, do_ltrim, SQLITE_DETERMINISTIC},     {"rtrim", 2, do_rtrim, SQLITE_DETERMINISTIC},
         {"current_setting", 1, do_current_setting, 0},
     };
-    for (unsigned i = 0; i < sizeof functions / sizeof functions[0]; i++)
-        if (sqlite3_create_function(session->database, functions[i].name, functions[i].count,
-                                    SQLITE_UTF8 | SQLITE_INNOCUOUS | functions[i].flags, session, functions[i].act, NULL, NULL) != SQLITE_OK)
-            return 0;
-    return 1;
+    int said = SQLITE_OK;
+    for (unsigned i = 0; said == SQLITE_OK && i < sizeof functions / sizeof functions[0]; i++)
+        said = sqlite3_create_function(session->database, functions[i].name, functions[i].count,
+                                       SQLITE_UTF8 | SQLITE_INNOCUOUS | functions[i].flags, session, functions[i].act, NULL, NULL);
+    return said == SQLITE_OK;
 }

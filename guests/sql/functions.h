@@ -1,5 +1,5 @@
-/* SQL functions of the guest's own, under the names of SQLite's whose one call can take as long as its values' lengths multiplied: LIKE, GLOB,
-   instr, replace, and trim with a second value. They answer as SQLite's, and are looked at in their midst. And current_setting, as
+/* SQL functions of the guest's own, under the names of SQLite's whose one call can take as long as its values' lengths multiplied: LIKE,
+   GLOB, instr, replace, and trim with a second value. They answer as SQLite's, and are looked at in their midst. And current_setting, as
    PostgreSQL has it. */
 #ifndef FUNCTIONS_H
 #define FUNCTIONS_H

@@ -134,7 +134,8 @@ def boots(built: Built, room: Path) -> Iterator[tuple[str, str | None]]:
             client = Postgres(served.postgres)
             came = client.rows("SELECT count(*), min(b), max(b), (SELECT * FROM pragma_integrity_check) FROM t")
             said = Browser(served.http).ask("GET", "/log")[1]
-            is_right = came == [(5, "there", "there", "ok")] and re.fullmatch(r"[\d.]+ s: recovered \d+ frames from WAL file /db-wal\n", said)
+            is_said = re.fullmatch(r"[\d.]+ s: recovered \d+ frames from WAL file /db-wal\n", said)
+            is_right = came == [(5, "there", "there", "ok")] and is_said
             yield f"a log that is left, {name}", None if is_right else f"{came} {said!r}"
             client.close()
         data = bytearray(disk.read_bytes())

@@ -1,5 +1,5 @@
-"""Statements in turns: while one takes long the others are served, and it can be stopped; how long it, a wait for a lock, and a silence within
-a transaction may take; and what is said of a query that waits, once."""
+"""Statements in turns: while one takes long the others are served, and it can be stopped; how long it, a wait for a lock, and a silence
+within a transaction may take; and what is said of a query that waits, once."""
 from __future__ import annotations
 
 import random
@@ -164,7 +164,8 @@ def settings(served: Served) -> Iterator[tuple[str, str | None]]:
         client.ask(f"SET statement_timeout TO {value}")
         seen.append(shown())
     yield "set", differs(seen, ["5s", "1500ms", "1500ms", "2min", "3h", "0", "20s"])
-    seen = [code_of(lambda value=value: client.ask(f"SET lock_timeout = {value}")) for value in ("'x'", "-1", "'5 years'", "'99999999999'", "''")]
+    unread = ("'x'", "-1", "'5 years'", "'99999999999'", "''")
+    seen = [code_of(lambda value=value: client.ask(f"SET lock_timeout = {value}")) for value in unread]
     yield "not set", differs([seen, shown("lock_timeout")], [["22023"] * 5, "10s"])
     client.ask("SET SESSION statement_timeout = 7; BEGIN; SET LOCAL statement_timeout = 9000")
     seen = [shown()]
