@@ -5,6 +5,7 @@ import json
 import os
 import time
 from pathlib import Path
+from typing import BinaryIO
 
 
 class State:
@@ -14,7 +15,7 @@ class State:
         self.folder = Path(folder)
         self.folder.mkdir(parents=True, exist_ok=True)
         self.file, self.outlived = self.folder / "life.json", self.folder / "outlived.json"
-        self.lock = open(self.folder / "lock", "w")
+        self.lock = opened_alone(self.folder / "lock")
         try:
             fcntl.flock(self.lock, fcntl.LOCK_EX | fcntl.LOCK_NB)
         except OSError:
@@ -40,6 +41,13 @@ class State:
             return str(found["life"]), int(found["generation"])
         except (OSError, ValueError, KeyError, TypeError):
             return None, 0
+
+
+def opened_alone(path: Path) -> BinaryIO:
+    """A file that is there for its lock, for its owner alone: whoever could open it could hold the lock too, and no daemon would start."""
+    file = os.open(path, os.O_RDWR | os.O_CREAT | os.O_CLOEXEC, 0o600)
+    os.fchmod(file, 0o600)
+    return open(file, "wb")
 
 
 def written(path, data):
