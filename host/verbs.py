@@ -83,7 +83,8 @@ class Verbs:
         def does() -> Answer:
             return why_not() or (self.begin(source, disk, bare) if begins else self.go_on())
 
-        if force or not host.meeting.hears_live(now) or why_not() is not None:
+        why = why_not()
+        if force or not host.meeting.hears_live(now) or why is not None and why["refused"] != "PeerUnknown":  # who lives is heard
             return does()
         host.task = Promotion(host, lambda: self.promoted(does), answer, now)
         return None
