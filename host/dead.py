@@ -42,6 +42,11 @@ class Watch:
         self.trap, self.at_trap, self.at_entry = None, 0, 0
         self.found, self.holds = None, None  # what is told, and the registers, or the trap, that have to stay for it
 
+    def begin_generation(self) -> None:
+        """Checkpoints are of another generation from now on, and of the same guest: what was told of it isn't told again."""
+        if self.found is None:
+            self.forget()
+
     def see(self, text, number):
         """The first bytes of a checkpoint's text. Answers whether it tells from now on."""
         if len(text) < LEAST or number == 0:

@@ -361,7 +361,7 @@ class Live:
         self.to_look, self.most = looks(self.pages), answer.number(2)
         self.cut, self.acked, self.sending, self.sent, self.is_fetched = 0, None, 0, 0, False
         self.acked_at = self.epoch_begun = now
-        self.watch = Watch()
+        self.watch.begin_generation()
 
     def attach(self, session, standby, now):
         if not self.is_stopped and (steps := self.steps_due(now)) > 0:  # since it stands while its disk is copied

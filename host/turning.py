@@ -4,7 +4,6 @@ checkpoint 0 of the later generation is told by where the earlier one stands. Wh
 from collections import OrderedDict
 
 from host import messages
-from host.dead import Watch
 from host.node import PIECE, text_from
 
 MOST = 4 << 20  # bytes of pending texts, which are kept until they are acknowledged
@@ -61,7 +60,7 @@ def go_on(live: "Live", now: float) -> bool:
         turn.left.pop(0)
         live.generation = answer.number(1)
     live.begin_generation(now)
-    live.watch = Watch()
+    live.watch.begin_generation()
     turn.tell(live, now)
     return True
 
