@@ -1,6 +1,7 @@
 """The control socket: a JSON object a line, and an answer a line for each, in order. And the port for Prometheus."""
 import json
 import os
+import select
 import socket
 
 from host import metrics
@@ -35,6 +36,12 @@ class Client:
             return False
         self.came += data
         return bool(data)
+
+    def is_gone(self) -> bool:
+        """Whether it has closed the line, so that it reads no answer: who has only ended what he says still does."""
+        ends = select.poll()
+        ends.register(self.line, 0)
+        return bool(ends.poll(0))
 
     def write(self, data=b""):
         """Whether it still takes what is sent."""
@@ -122,6 +129,8 @@ class Control(Server):
         if len(line) > MOST_LINE:
             self.answered(client, refusal("Malformed", f"a line of more than {MOST_LINE} bytes"))
             self.drop(client)
+        elif newline and client.is_gone():
+            self.drop(client)  # who asked was told that no answer came, and may have done something else since
         elif newline:
             client.came, client.waits = rest, True
             self.verbs.do(bytes(line), lambda answer: self.answered(client, answer))
