@@ -137,7 +137,7 @@ class Pair:
                 status = self.running()
             self.refuse_useless(status)
         except Failure as failure:
-            if isinstance(failure, Silent) and meta("role") and self.cluster.best_score_elsewhere() < SCORE_FULL:
+            if isinstance(failure, Silent) and self.cluster.best_score_elsewhere() < SCORE_FULL:
                 return self.leave_alone(failure.reason)
             self.cluster.publish(None)
             raise
@@ -146,8 +146,8 @@ class Pair:
 
     def leave_alone(self, why: str) -> int:
         """The daemon runs and can't be asked, and no other host has the guest: to end it would surely end that. A live host keeps its
-        score; what else is here mustn't be promoted meanwhile."""
-        is_promoted = meta("role") not in AS_STANDBY
+        score; what else is here mustn't be promoted meanwhile. A probe isn't told which it is, and this host's score tells it."""
+        is_promoted = meta("role") not in AS_STANDBY if meta("role") else self.cluster.says_live()
         if not is_promoted:
             self.cluster.publish(None)
         self.say_wrong([f"{why}. No other host has the guest, so the daemon is left as it is"])

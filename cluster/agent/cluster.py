@@ -2,7 +2,7 @@
 import os
 import re
 
-from agent.life import Life, behind
+from agent.life import SCORE_WAITS, Life, behind
 from agent.ocf import GENERIC, Failure, meta, run
 
 FALSE = ("false", "off", "no", "n", "0")
@@ -95,10 +95,17 @@ class Cluster:
         asked = run("attrd_updater", "--name", name, "--query", "--all", *more)
         return dict(re.findall(r'host="([^"]*)" value="([^"]*)"', asked.stdout))
 
+    def scores(self) -> dict[str, int]:
+        """By node, where it has one."""
+        return {node: int(score) for node, score in self.attributes("master-" + self.resource).items() if score.isdigit()}
+
     def best_score_elsewhere(self) -> int:
         """0 where no other node has one."""
-        scores = self.attributes("master-" + self.resource)
-        return max((int(score) for node, score in scores.items() if node != self.node and score.isdigit()), default=0)
+        return max((score for node, score in self.scores().items() if node != self.node), default=0)
+
+    def says_live(self) -> bool:
+        """Whether this node's score is a live host's."""
+        return self.scores().get(self.node, 0) >= SCORE_WAITS
 
     def give_up(self, instance: str) -> None:
         run("attrd_updater", "--name", self.given_up_name, "--node", self.node, "--update", instance, "--private")

@@ -74,7 +74,8 @@ def parameter(row, times: int) -> None:
 
 
 def slow(row, times: int) -> None:
-    """The daemon of a live host without a standby says nothing for five seconds; and for fifteen; and its socket is gone for five."""
+    """The daemon of a live host without a standby says nothing for five seconds; and for fifteen; and for twenty, while the operator has
+    Pacemaker look anew; and its socket is gone for five."""
     bed = row.bed
     for row.tries in range(1, times + 1):
         live, standby = bed.pair()
@@ -82,10 +83,12 @@ def slow(row, times: int) -> None:
         life, begin = bed.status(live)["life"], time.time()
         control = Path(f"/proc/{bed.power.init(live)}/root/run/remus/control.sock")
         with row.clients() as clients:
-            for seconds in (SLOW, 3 * SLOW):
-                pid = bed.pid_of_daemon(live)
+            for seconds, is_refreshed in ((SLOW, False), (3 * SLOW, False), (4 * SLOW, True)):
+                pid, stopped = bed.pid_of_daemon(live), time.time()
                 os.kill(pid, signal.SIGSTOP)
-                time.sleep(seconds)
+                if is_refreshed:
+                    bed.on(standby, "crm_resource", "--refresh", "--resource", "pair")
+                time.sleep(max(0, stopped + seconds - time.time()))
                 os.kill(pid, signal.SIGCONT)
                 time.sleep(2)
                 goes_on(row, life, live, begin)
