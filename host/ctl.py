@@ -104,7 +104,7 @@ def ask(path: str, request: dict[str, Any], timeout: float = 10.0) -> dict[str, 
             with line.makefile("rb") as answers:
                 answer = answers.readline(MOST_ANSWER)
     except TimeoutError:
-        raise NoAnswer(f"no answer at {path} within {timeout:g} s") from None
+        raise NoAnswer(f"no answer at {path} within {timeout:g} s: what was asked is under way, or isn't done") from None
     except PermissionError:
         raise NoAnswer(f"no permission to ask at {path}: root may, and the daemon's user") from None
     except OSError as error:
