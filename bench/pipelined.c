@@ -201,7 +201,7 @@ static void send_epoch(int number) {
     FILE *out = open_memstream(&text, &size);
     pthread_mutex_lock(&lines);
     fprintf(out, "step %zu\ncut\n", steps);
-    await(0, 0, "steps %zu frames 0\n", steps_before + steps * number);
+    await(0, 0, "steps %zu outbox 0 frames 0\n", steps_before + steps * number);
     await(0, 0, "cut 2 %d %zu\n", number, length);
     for (size_t at = 0; at < length; at += part) {
         size_t count = least(part, length - at);
@@ -304,11 +304,11 @@ static void play_nodes(const char *program, int pages, const char *guest) {
     tell(&first, "step %zu\nprotect\n", steps_before);
     tell(&second, "standby %d 64 2\n", pages);
     expect(&first, "booted");
-    expect(&first, "steps %zu frames 0", steps_before);
+    expect(&first, "steps %zu outbox 0 frames 0", steps_before);
     expect(&second, "waiting 2");
     carry_alone(0);
     tell(&first, "step %zu\ncut\n", steps);
-    expect(&first, "steps %zu frames 0", steps_before + steps);
+    expect(&first, "steps %zu outbox 0 frames 0", steps_before + steps);
     carry_alone(1);
     sem_init(&awaited, 0, 0);
     sem_init(&free_places, 0, PENDING);

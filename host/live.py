@@ -5,7 +5,7 @@ from collections import OrderedDict
 from host import messages, turning
 from host.dead import Watch, told
 from host.looks import Looks
-from host.node import LOOK, PIECE, STEPS, arrive, looks, text_from
+from host.node import LOOK, MADE, OUTBOX, PIECE, STEPS, arrive, looks, text_from
 from host.pacing import TRY_EVERY, Pacer
 from host.text import MOST_PAGE, pages_and_frames
 
@@ -48,6 +48,7 @@ class Live:
         self.is_fetched = False  # whether the node was asked for all of the full checkpoint's text
         self.late_ack = None  # the number of an acknowledgement that the node is told with its next lines
         self.has_arrived = False  # whether frames came since the guest's last steps
+        self.outbox = 0  # frames that wait there since the last cut
         self.is_full = False  # the outbox: the guest goes on after the next cut
         self.is_stopped = self.is_frozen = False  # for a drain, or since the host is frozen
         self.held = 0
@@ -219,7 +220,7 @@ class Live:
                 self.log.seldom("step", "error", f"the guest can't go on: {b' '.join(answer.words).decode()}")
             steps = self.node.ask("show").number(STEPS)
         else:
-            steps = answer.number(1)
+            steps, self.outbox = answer.number(MADE), answer.number(OUTBOX)
             if answer.frames:
                 self.put(answer.frames, now)
         self.counts.steps += steps - self.steps
@@ -246,7 +247,7 @@ class Live:
             self.log.seldom("cut", "warning", f"the node can't cut: {b' '.join(cut.words).decode()}")
             self.pacer.end()  # the guest goes on without it
             return
-        self.is_full = False
+        self.outbox, self.is_full = 0, False
         if not self.pending:
             self.acked_at = now
         self.cut = cut.number(2)
@@ -417,7 +418,7 @@ class Live:
         self.turning, self.turn_wanted = None, False
         self.mode, self.session, self.standby, self.successor, self.late_ack = ALONE, None, None, None, None
         self.pacer.end()
-        self.pending, self.cut, self.acked, self.is_full = OrderedDict(), None, None, False
+        self.pending, self.cut, self.acked, self.outbox, self.is_full = OrderedDict(), None, None, 0, False
         self.moved_at = now
         self.put(frames, now)
         self.looks.begin(now)

@@ -17,6 +17,7 @@ ENDS = {signal.SIGSEGV: ", as one that is refused a page of its stack", signal.S
         "memory is short"}
 WITH_FRAMES, REFUSALS = {b"steps", b"acked", b"alone"}, {b"refused", b"bad"}
 STEPS, WRITTEN = 7, 9  # the places of these numbers in the answer to `show`
+MADE, OUTBOX = 1, 3  # and in the answer to `step`: the guest's step count, and how many frames wait in its outbox
 PIECE = 1 << 16  # bytes of a text that are asked for at a time
 LOOK = "text 0 0 0"  # asks for no byte of the full checkpoint's text, so that the node looks at the guest's next pages for it
 LOOKED_AT = 1024  # pages, with each such line

@@ -165,7 +165,8 @@ class Primary:
                     break
                 raise Refused(CUT_NEEDED)
             machine.step()
-        return with_frames(f"steps {machine.steps}", self.taken() if self.mode == ALONE else [])
+        frames = self.taken() if self.mode == ALONE else []
+        return with_frames(f"steps {machine.steps} outbox {len(machine.sent)}", frames)
 
     def taken(self):
         """The frames that the guest has sent since they were taken last."""

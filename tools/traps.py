@@ -81,7 +81,8 @@ class Node:
     def step_to(self, steps):
         """A step may end early, where the outbox is full; what it held is sent then."""
         while self.steps < steps:
-            came, _, frames = (int(field) if field.isdigit() else field for field in self.ask(f"step {steps - self.steps}", "steps")[1:])
+            answer = self.ask(f"step {steps - self.steps}", "steps")
+            came, frames = int(answer[1]), int(answer[-1])
             for _ in range(frames):
                 self.process.stdout.readline()
             if came <= self.steps:

@@ -25,10 +25,11 @@ let_out_now q = if q.backed then [] else q.live.outbox
 abbrev pub after_steps : Primary → Primary
 after_steps q = if q.backed then q else after_release q
 
--- steps, which left q, are answered
+-- Steps, which left q, are answered: by the guest's step count, by how many frames wait in the outbox now, and by those that are let out.
 abbrev pub IsStepsAnswer : List ℕ → Flagged → Result ℕ Refusal → List ℕ → Flagged → Type 0
 IsStepsAnswer no_memory q (Ok made) printed new =
-    (printed ≡ steps_lines q.primary.live.guest.steps (let_out_now q.primary)) × (new ≡ with_primary q (after_steps q.primary))
+    (printed ≡ steps_lines q.primary.live.guest.steps (length new.primary.live.outbox) (let_out_now q.primary))
+    × (new ≡ with_primary q (after_steps q.primary))
 IsStepsAnswer no_memory q (Err why) printed new = Refuses no_memory why q printed new
 
 -- a part of a text, or why there is none

@@ -14,9 +14,13 @@ frame_line frame = line (codes "frame" ∷ encode_lower frame.items ∷ [])
 abbrev pub frame_lines : List Frame → List ℕ
 frame_lines frames = flat_map frame_line frames
 
-abbrev pub steps_lines : ℕ → List Frame → List ℕ
-steps_lines steps frames =
-    line (codes "steps" ∷ decimal steps ∷ codes "frames" ∷ decimal (length frames) ∷ []) ++ frame_lines frames
+-- the guest's step count, how many frames wait in its outbox, and how many are let out; and these
+abbrev pub steps_line : ℕ → ℕ → ℕ → List ℕ
+steps_line steps waiting frames =
+    line (codes "steps" ∷ decimal steps ∷ codes "outbox" ∷ decimal waiting ∷ codes "frames" ∷ decimal frames ∷ [])
+
+abbrev pub steps_lines : ℕ → ℕ → List Frame → List ℕ
+steps_lines steps waiting frames = steps_line steps waiting (length frames) ++ frame_lines frames
 
 abbrev pub acked_lines : ℕ → ℕ → List Frame → List ℕ
 acked_lines generation number frames =

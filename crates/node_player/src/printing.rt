@@ -1,7 +1,7 @@
 //! What a node prints that a script doesn't: answers with frames or with a part of a checkpoint's text, and lines of its own.
 
 ghost use Rattle.std.specs.Prelude.{◌≡◌, ◌≤◌, ◌∷◌, [], length, codes, decimal};
-ghost use Rattle.node_player.specs.Printed.{cut_line, frame_line, frame_lines, malformed_line, show_line, text_line};
+ghost use Rattle.node_player.specs.Printed.{cut_line, frame_line, frame_lines, malformed_line, show_line, steps_line, text_line};
 ghost use Rattle.script_player.specs.Printed.{line, refusal_line, told_refusal};
 ghost use Rattle.script_player.specs.Streams.{IsPut};
 
@@ -118,6 +118,23 @@ pub fn put_text<O: Sink>(out: &mut O, bytes: &[u8]) -> Result<(), Failed>
     add_digits(&mut piece, rest);
     add(&mut piece, b"\n");
     out.put(piece.as_slice())
+}
+
+/// Prints the guest's step count, how many frames wait in its outbox, and how many are let out.
+pub fn write_steps(text: &mut Text, steps: u64, waiting: u64, frames: u64)
+    ensures { text.new.items ≡ steps_line steps waiting frames }
+{
+    write_line(
+        text,
+        "steps",
+        &[
+            Number(steps),
+            Word("outbox"),
+            Number(waiting),
+            Word("frames"),
+            Number(frames),
+        ],
+    );
 }
 
 /// Prints up to which checkpoint all are acknowledged, and how many frames are let out.

@@ -11,7 +11,7 @@ ghost use Rattle.script_player.specs.Printed.{line};
 ghost use Rattle.script_player.specs.Session.{IsAnswered};
 ghost use Rattle.script_player.specs.Streams.{IsPut};
 
-use crate::printing::{put_frames, put_text, refuse, tell, write_acked, write_cut};
+use crate::printing::{put_frames, put_text, refuse, tell, write_acked, write_cut, write_steps};
 use crate::role::Role;
 use pair_core::{Frame, Packet, Refusal};
 use pair_nodes::PrimaryNode;
@@ -64,19 +64,20 @@ fn step_guest<O: Sink>(primary: &mut PrimaryNode, count: u64, out: &mut O) -> Re
         return refuse(why, out);
     }
     if primary.is_backed() {
-        return put_steps(out, primary.steps(), &[]);
+        let waiting = primary.outbox().len() as u64;
+        return put_steps(out, primary.steps(), waiting, &[]);
     }
-    let written = put_steps(out, primary.steps(), primary.outbox());
+    let written = put_steps(out, primary.steps(), 0, primary.outbox());
     primary.release();
     written
 }
 
-/// Prints the guest's step count and the frames that are let out.
-fn put_steps<O: Sink>(out: &mut O, steps: u64, frames: &[Frame]) -> Result<(), Failed>
-    ensures { IsPut (O.written out.old) (O.written out.new) result (steps_lines steps frames.now) }
+/// Prints the guest's step count, how many frames wait in its outbox, and those that are let out.
+fn put_steps<O: Sink>(out: &mut O, steps: u64, waiting: u64, frames: &[Frame]) -> Result<(), Failed>
+    ensures { IsPut (O.written out.old) (O.written out.new) result (steps_lines steps waiting frames.now) }
 {
     let mut text = Text::new();
-    write_generation(&mut text, "steps", steps, "frames", frames.len() as u64);
+    write_steps(&mut text, steps, waiting, frames.len() as u64);
     out.put(text.as_slice())?;
     put_frames(out, frames)
 }

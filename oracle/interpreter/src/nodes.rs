@@ -276,7 +276,8 @@ impl Primary {
             Mode::Alone => std::mem::take(&mut machine.sent),
             _ => Vec::new(),
         };
-        Ok(with_frames(format!("steps {}", machine.steps), &frames))
+        let (steps, waiting) = (machine.steps, machine.sent.len());
+        Ok(with_frames(format!("steps {steps} outbox {waiting}"), &frames))
     }
 
     fn need_standby(&self) -> Result<(), &'static str> {
