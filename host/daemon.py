@@ -319,7 +319,7 @@ class Daemon:
             if not live.is_patient or connection is not link.connection or connection.waits_to_write:
                 break
             now = time.monotonic()
-            until = live.epoch_begun + live.span if live.is_slow else live.due(now)
+            until = live.epoch_begun + live.span if live.makes_all_at_end(now) else live.due(now)
             came = select.select(descriptors, (), (), max(0, until - now))[0]
 
     def wait(self, now):

@@ -16,6 +16,9 @@ LATE = 0.1  # a guest that is so many seconds late isn't hurried any more
 QUIET = 0.1  # after so many seconds without a frame a guest that is alone runs in slices of SLOW, and one that is paired in epochs
 SLOW = 0.005
 LONG = 2  # times as long as others, for whose end nothing waits
+ASKED = 0.02  # for so many seconds after a frame came or went the network asks the guest, and a reply may be near
+SOON = 0.0002  # seconds, in slices of which a protected guest runs while it is asked
+EARLY = 0.0005  # seconds: an epoch whose guest has something to say ends no earlier, and no later than so long after that was seen
 CUT_NEEDED = b"13"  # the refusal of a step where the outbox is full
 
 
@@ -35,7 +38,7 @@ class Live:
         self.node, self.network, self.link, self.counts, self.log = host.node, host.network, host.link, host.counts, host.log
         self.epoch, self.rate = host.settings.epoch_ms, host.settings.steps_per_ms * 1000
         self.slice, self.epoch_steps = host.settings.steps_per_ms, self.epoch * self.rate
-        self.most_at_once = max(self.slice, QUICK)
+        self.most_at_once, self.soon = max(self.slice, QUICK), max(1, int(SOON * self.rate))
         self.is_slow = self.most_at_once >= LONG * self.epoch_steps  # whether the guest makes all its steps of an epoch at its end
         self.generation, self.steps, self.mode = generation, steps, ALONE
         self.pages = host.shape[0]  # of the guest's memory
@@ -49,6 +52,7 @@ class Live:
         self.late_ack = None  # the number of an acknowledgement that the node is told with its next lines
         self.has_arrived = False  # whether frames came since the guest's last steps
         self.outbox = 0  # frames that wait there since the last cut
+        self.said_at, self.is_saying = 0.0, False  # when the first of them was seen, and whether the last steps sent more
         self.is_full = False  # the outbox: the guest goes on after the next cut
         self.is_stopped = self.is_frozen = False  # for a drain, or since the host is frozen
         self.held = 0
@@ -118,7 +122,7 @@ class Live:
         if self.is_stopped or self.waits:
             return None
         ends = self.epoch_begun + self.span if self.may_cut() else None
-        if self.is_full or ends is not None and self.is_slow:
+        if self.is_full or ends is not None and self.makes_all_at_end(now):
             return ends
         return self.runs_at(now) if ends is None else min(self.runs_at(now), ends)
 
@@ -126,7 +130,16 @@ class Live:
         """When the guest is to make its next steps, if no frame comes before."""
         if self.pacer.is_on(now):
             return self.pacer.tried_at + TRY_EVERY if self.pacer.is_held else self.guest_begun + (self.made + self.slice) / self.rate
-        return self.guest_begun + (self.made + min(self.batch(now), max(self.slice, self.epoch_steps))) / self.rate
+        together = self.soon if self.is_asked(now) else min(self.batch(now), max(self.slice, self.epoch_steps))
+        return self.guest_begun + (self.made + together) / self.rate
+
+    def is_asked(self, now: float) -> bool:
+        """Whether a reply may be near, which ends the epoch."""
+        return self.mode == PAIRED and now - self.moved_at < ASKED
+
+    def makes_all_at_end(self, now: float) -> bool:
+        """Whether the guest makes all its steps of the running epoch at its end."""
+        return self.is_slow and not self.is_asked(now)
 
     def batch(self, now):
         """How many steps are made at a time: few where they may let frames out."""
@@ -182,6 +195,9 @@ class Live:
             self.stepped(answers.pop(0), now)
         if ends:
             self.was_cut(now, *answers)
+        elif self.outbox and self.is_said(self.ran_at):
+            self.counts.epochs_said += 1
+            self.was_cut(self.ran_at, *self.tell(*self.cut_lines()))
 
     def quiet_epoch(self, now):
         """What `turn` does of a patient host, with less ado where an epoch ends and its checkpoint is the next that is sent."""
@@ -220,11 +236,22 @@ class Live:
                 self.log.seldom("step", "error", f"the guest can't go on: {b' '.join(answer.words).decode()}")
             steps = self.node.ask("show").number(STEPS)
         else:
-            steps, self.outbox = answer.number(MADE), answer.number(OUTBOX)
+            steps, outbox = answer.number(MADE), answer.number(OUTBOX)
+            if outbox:
+                self.sent_more(outbox > self.outbox, now)
+            self.outbox = outbox
             if answer.frames:
                 self.put(answer.frames, now)
         self.counts.steps += steps - self.steps
         self.made, self.steps = self.made + steps - self.steps, steps
+
+    def sent_more(self, is_more: bool, now: float) -> None:
+        """Frames wait in the outbox, and whether the last steps sent some of them."""
+        if not self.outbox:
+            self.said_at = now
+        if is_more:
+            self.moved_at = now
+        self.is_saying = is_more
 
     def put(self, frames, now):
         for frame in frames:
@@ -235,6 +262,12 @@ class Live:
 
     def epoch_ends(self, now):
         return (now - self.epoch_begun >= self.span or self.is_full) and self.may_cut()
+
+    def is_said(self, now: float) -> bool:
+        """Whether the running epoch ends early, since the guest has sent something, and no more by its last steps, or it goes on sending. One
+        checkpoint more may be pending then, so that the guest goes on if none is acknowledged."""
+        return (self.mode == PAIRED and len(self.pending) < MOST_PENDING - 1 and now - self.epoch_begun >= EARLY and
+                (not self.is_saying or now - self.said_at >= EARLY))
 
     def cut_lines(self):
         """A cut, and the first bytes of its text where they are the next that are sent."""
@@ -247,6 +280,7 @@ class Live:
             self.log.seldom("cut", "warning", f"the node can't cut: {b' '.join(cut.words).decode()}")
             self.pacer.end()  # the guest goes on without it
             return
+        self.counts.epochs_full += self.is_full
         self.outbox, self.is_full = 0, False
         if not self.pending:
             self.acked_at = now

@@ -57,7 +57,7 @@ class Looks:
                 live.log.error(told(live.watch.found))
             is_told = live.watch.found is not None or not has_trapped(head)
         answer = live.node.ask("alone")
-        live.generation, live.is_full, self.spent = answer.number(1), False, self.spent + 1
+        live.generation, live.outbox, live.is_full, self.spent = answer.number(1), 0, False, self.spent + 1
         if answer.frames:
             live.put(answer.frames, now)
         return is_told

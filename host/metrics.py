@@ -7,7 +7,7 @@ BUCKETS = (0.0005, 0.001, 0.002, 0.005, 0.01, 0.025, 0.05, 0.1, 0.25, 1.0)  # se
 
 class Counts:
     def __init__(self):
-        self.epochs = self.checkpoint_bytes = self.checkpoint_pages = self.commits = 0
+        self.epochs = self.epochs_said = self.epochs_full = self.checkpoint_bytes = self.checkpoint_pages = self.commits = 0
         self.frames_in = self.frames_out = self.frames_dropped = self.networks_mended = 0
         self.paced = 0.0  # seconds
         self.steps = self.failovers = self.attachments = self.begun_again = self.links = self.dropped_messages = 0
@@ -40,6 +40,9 @@ def text(host):
         int(host.meeting.are_two_live(time.monotonic())))
     one("remus_full", "gauge", "1 where the guest could go on here.", int(host.full))
     one("remus_epochs_total", "counter", "Epochs that ended in a checkpoint.", counts.epochs)
+    tell("remus_epochs_ended_total", "counter", "Epochs by why they ended: the guest had something to say, its outbox was full, or it was time.",
+         ('{why="said"}', counts.epochs_said), ('{why="full"}', counts.epochs_full),
+         ('{why="time"}', counts.epochs - counts.epochs_said - counts.epochs_full))
     one("remus_checkpoint_bytes_total", "counter", "Bytes of checkpoints that were cut or committed here: of a full one once it is fetched.",
         counts.checkpoint_bytes)
     one("remus_checkpoint_pages_total", "counter", "Page records of checkpoints that were sent.", counts.checkpoint_pages)

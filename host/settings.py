@@ -181,7 +181,7 @@ KEYS = {
     "peer_certificate": (text, "the peer's certificate"),
     "plain": (insecure, f"{INSECURE}: the link isn't encrypted, over the loopback alone, and each user of this machine can read the guest"),
     "link_ms": (milliseconds(50, 60000), "a link over which nothing comes for so long is closed"),
-    "epoch_ms": (milliseconds(1, 1000), "the length of an epoch"),
+    "epoch_ms": (milliseconds(1, 1000), "the longest that an epoch is, which ends early where the guest has sent something"),
     "steps_per_ms": (count(1_000_000), "what the guest was built for"),
     "drain_ms": (DRAIN_MS, "the longest that a drain waits, of a host that is told to end too"),
     "network": (one_of("tap", "socket", "none"), "tap, socket or none"),
