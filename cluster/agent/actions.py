@@ -413,9 +413,15 @@ class Pair:
             return
         life = self.cluster.life()
         is_another = life is not None and life.name not in ("", status["life"])
-        has_gone_on = status["role"] == "frozen" and why_not(status, life) is not None
-        if has_gone_on or status["full"] and is_another:
+        if self.has_gone_on(status, life) or status["full"] and is_another:
             self.cluster.give_up(status["instance"])
+
+    def has_gone_on(self, status: dict, life: Life | None) -> bool:
+        """Whether a guest that was stopped here is live at the other host. Pacemaker tells of a promote that failed as of one that didn't:
+        by the property the guest was alone there since, or the other host's score is a live one's."""
+        if status["role"] != "frozen" or why_not(status, life) is None:
+            return False
+        return stale(status, life) is not None or self.cluster.best_score_elsewhere() >= SCORE_WAITS
 
     # Validate.
 
