@@ -7,8 +7,8 @@ import time
 from agent import parameters
 from agent.cluster import Cluster
 from agent.daemon import PATIENCE_SECONDS, Daemon, Silent
-from agent.life import SCORE_FIRST, SCORE_FULL, SCORE_LIVE, SCORE_WAITS, Life, alone_in, is_left_half_filled, may_boot, stale, stalls
-from agent.life import why_not, wrong_at
+from agent.life import SCORE_FIRST, SCORE_FULL, SCORE_LIVE, SCORE_WAITS, Life, alone_in, holds_up_frozen, is_left_half_filled, may_boot
+from agent.life import stale, stalls, why_not, wrong_at
 from agent.ocf import DEGRADED, GENERIC, INSTALLED, NOT_RUNNING, PROMOTED, SUCCESS, UNIMPLEMENTED, Failure, meta, run, warn
 
 TAKE_SECONDS = 5  # for a demotion before a stop
@@ -171,6 +171,8 @@ class Pair:
             raise Failure(GENERIC, "this standby was given up: it has to begin anew")
         if is_left_half_filled(status) and self.cluster.life() is None:
             raise Failure(GENERIC, "this standby was left half filled, and a new guest may be booted: it has to begin anew")
+        if holds_up_frozen(status):
+            raise Failure(GENERIC, "this standby was left half filled, and its live host stands with the guest: it has to begin anew")
 
     def why_lost(self, status: dict) -> str | None:
         """Why nobody goes on with the guest that the property names, if that is so for a while."""

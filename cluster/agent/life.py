@@ -80,6 +80,11 @@ def is_left_half_filled(status: dict) -> bool:
     return status["role"] == "standby" and not status["full"] and status["link"] == "down"
 
 
+def holds_up_frozen(status: dict) -> bool:
+    """Whether it is such a standby, and its live host stands with the guest, which can't go on before this standby has stopped."""
+    return is_left_half_filled(status) and status["peer"].get("role") == "frozen"
+
+
 def wrong_at(status: dict) -> list[str]:
     """What the daemon says is wrong, a sentence each."""
     found = []
