@@ -60,8 +60,8 @@ def fenced_and_live(row, victim, survivor, begin):
     bed = row.bed
     bed.until(lambda: bed.live() == survivor, 30, f"{survivor} live")
     asked, off = bed.power.since(begin, "asked", victim), bed.power.since(begin, "off", victim)
-    live = bed.when(survivor, "live in generation", begin)
-    if row.expect(asked and off and live, "it wasn't fenced, or nobody went live"):
+    live = bed.until(lambda: bed.when(survivor, "live in generation", begin), 10, f"{survivor}'s line in its log")
+    if row.expect(asked and off, f"it wasn't fenced: asked {asked}, off {off}"):
         row.expect(off < live, "the other host went live before the first one was fenced")
         for event in EVENTS:
             if at := bed.logged(survivor, event, begin):
