@@ -183,8 +183,10 @@ class Pair:
             return None
         if self.lasts(self.lost) < LOST_SECONDS:
             return None
-        return (f"the guest of life {life.name} is live nowhere, and no host of the cluster can go on with it (here: {here}). A new one is "
-                f"booted once {self.cluster.life_name} is deleted")
+        lost = f"the guest of life {life.name} is live nowhere, and no host of the cluster can go on with it (here: {here})"
+        if status["role"] == "frozen" and status["life"] == life.name:
+            return f"{lost}. It stands here, and goes on once its standby has stopped for good: have that stopped, and keep the property"
+        return f"{lost}. A new one is booted once {self.cluster.life_name} is deleted"
 
     def say_wrong(self, sentences: list[str]) -> None:
         """Has the node's attribute say what is wrong here, the parameters too; or takes it back."""
