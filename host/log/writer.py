@@ -83,7 +83,8 @@ class BaseFile:
         self.disk, self.folder, self.generation = disk, folder, generation
         self.path, self.beside = folder / f"{generation}.base", folder / f"{generation}.base.new"
         self.file = disk.create(self.beside)
-        disk.allocate(self.file, 0, BLOCK + most)
+        # The room that its log takes at first is had now too, and given back for it once the text is whole.
+        disk.allocate(self.file, 0, BLOCK + most + RESERVED)
         self.begin()
 
     def begin(self) -> None:
