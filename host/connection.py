@@ -41,12 +41,12 @@ class Connection:
         return self.socket.fileno()
 
     @property
-    def place(self):
+    def place(self) -> str:
         """Where the other end is, as text."""
         return "{}:{}".format(*self.address)
 
     @property
-    def is_proven(self):
+    def is_proven(self) -> bool:
         """Whether the other end has shown the pinned certificate."""
         return self.is_tls and self.is_open
 
