@@ -55,6 +55,8 @@ def make_keys(plan: argparse.Namespace) -> int:
         put(KEYS[plan.how](plan.folder, plan.name) + "\n")
     except OSError as error:
         return failed(f"{error.filename or 'standard output'}: {error.strerror}", 1)
+    except keys.NoKeys as error:
+        return failed(str(error), 1)
     return 0
 
 
