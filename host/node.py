@@ -90,12 +90,16 @@ class Node:
 
     def tell(self, *lines):
         """The answers to these lines. Together they, or their answers, fit into a pipe, but for the last one's."""
+        self.put(*lines)
+        return [self.answer() for _ in lines]
+
+    def put(self, *lines: bytes) -> None:
+        """Tells it these lines, whose answers are to be read in their turn. Raises NodeEnded."""
         try:
             self.input.write(b"\n".join((*lines, b"")))
             self.input.flush()
         except (BrokenPipeError, ValueError):
             raise NodeEnded(self.end()) from None
-        return [self.answer() for _ in lines]
 
     def ask(self, line):
         """The answer to one line, as text is given. Raises Refused."""

@@ -8,6 +8,7 @@ from host.log.reading import BaseReader, Found, LogReader, links
 from host.node import LOOK, PIECE, Node, Refused, looks, piece, text_from
 
 MOST_AT_ONCE = 1 << 18  # bytes of lines that a node is told at a time, which fit into its pipe
+AHEAD = 6  # pieces on their way to a node, which fit into its pipe too: so it needn't wait for each, nor be waited for
 
 
 def recovered(command: list[str], disk: Disk, folder: Path, found: Found) -> Node:
@@ -34,8 +35,7 @@ def fill(node: Node, disk: Disk, folder: Path, found: Found) -> None:
     head, base = found.head, BaseReader(disk, folder, found.generation)
     try:
         node.ask(f"standby {head.pages} {head.sectors} {found.generation}")
-        for data in base.pieces(head.base):
-            feed(node, data)
+        feed_all(node, base.pieces(head.base))
         committed(node.ask("commit"), found.generation, 0)
     finally:
         base.close()
@@ -61,9 +61,7 @@ def handed_over(node: Node, command: list[str], head: Head, generation: int, sin
             raise Rotten(f"{generation}.log stands on a log after which generation {made} comes")
         other = Node(command)
         other.ask(f"standby {head.pages} {head.sectors} {generation}")
-        for data in full_text(node, head.pages):
-            feed(other, data)
-            sink(data)
+        feed_all(other, sunk(full_text(node, head.pages), sink))
         committed(other.ask("commit"), generation, 0)
         node.close()
         return other
@@ -84,10 +82,26 @@ def full_text(node: Node, pages: int) -> Iterator[bytes]:
         begin += len(data)
 
 
-def feed(node: Node, data: bytes) -> None:
-    """Bytes of a text, a piece at a time. Raises Refused."""
-    for at in range(0, len(data), PIECE):
-        node.tell(piece(data[at:at + PIECE]))[0].checked()
+def sunk(parts: Iterable[bytes], sink: Callable[[bytes], None]) -> Iterator[bytes]:
+    """These, of which the sink gets each too."""
+    for data in parts:
+        yield data
+        sink(data)
+
+
+def feed_all(node: Node, parts: Iterable[bytes]) -> None:
+    """A text, a piece at a time, of which some are on their way. Where this raises, answers may be on their way too: the node isn't told
+    anything more then. Raises Refused."""
+    waiting = 0
+    for data in parts:
+        for at in range(0, len(data), PIECE):
+            node.put(piece(data[at:at + PIECE]))
+            waiting += 1
+            if waiting > AHEAD:
+                node.answer().checked()
+                waiting -= 1
+    for _ in range(waiting):
+        node.answer().checked()
 
 
 def feed_many(node: Node, texts: Iterable[bytes], generation: int) -> None:
@@ -97,7 +111,7 @@ def feed_many(node: Node, texts: Iterable[bytes], generation: int) -> None:
         if len(text) > PIECE:
             number += told(node, lines, generation, number)
             lines, size = [], 0
-            feed(node, text[:-1])  # its last byte with the commit
+            feed_all(node, [text[:-1]])  # its last byte with the commit
             text = text[-1:]
         lines += piece(text), b"commit"
         size += len(lines[-2])
