@@ -133,7 +133,7 @@ class Control(Server):
             self.drop(client)  # who asked was told that no answer came, and may have done something else since
         elif newline:
             client.came, client.waits = rest, True
-            self.verbs.do(bytes(line), lambda answer: self.answered(client, answer))
+            self.verbs.do(bytes(line), lambda answer: self.answered(client, answer), client.is_gone)
         elif not is_open:
             self.drop(client)
 

@@ -24,7 +24,7 @@ VERBS = {
 
 
 PARTS = {"peer", "log"}  # of a status: what has parts, each of which is a line
-PATIENCE = {"drain": 60.0, "demote": 60.0, "save": 600.0}  # seconds, where it isn't 10
+PATIENCE = {"promote": 70.0, "drain": 60.0, "demote": 60.0, "save": 600.0}  # seconds, where it isn't 10
 
 
 class NoAnswer(Exception):
@@ -47,6 +47,8 @@ def add(kinds: Any) -> None:
                                     help="a standby from its log goes live though the peer wasn't heard: it is lost for good")
     readers["promote"].add_argument("--bare", action="store_true",
                                     help="with --from or --disk: takes also the text of a full checkpoint alone, which has no sum")
+    readers["promote"].add_argument("--fenced", action="store_true",
+                                    help="at once, though the peer was heard to be live just before: it was made sure to be off since")
     readers["promote"].add_argument("--force", action="store_true", help="even where the peer says that it is live")
     readers["alone"].add_argument("--standby", metavar="INSTANCE", help="only if this is the standby")
     readers["drain"].add_argument("--promote", action="store_true", help="tells the standby to go live then")
@@ -60,7 +62,7 @@ def add_shared(one: argparse.ArgumentParser, unless_given: object) -> None:
     one.add_argument("--config", default=unless_given, metavar="FILE", help="its configuration, which names the socket")
     one.add_argument("--json", action="store_true", default=unless_given, help="prints the answer as it came")
     one.add_argument("--timeout", type=seconds, default=unless_given, metavar="SECONDS",
-                     help="how long an answer is awaited (default: 10, for drain and demote 60, for save 600)")
+                     help="how long an answer is awaited (default: 10, for drain and demote 60, promote 70, save 600)")
 
 
 def seconds(word: str) -> float:
@@ -83,7 +85,7 @@ def milliseconds(word: str) -> float:
 def request_of(plan: argparse.Namespace) -> dict[str, Any]:
     request = {"do": plan.verb}
     if plan.verb == "promote":
-        request |= {name: True for name in ("boot", "new", "bare", "without_peer", "force") if getattr(plan, name)}
+        request |= {name: True for name in ("boot", "new", "bare", "without_peer", "fenced", "force") if getattr(plan, name)}
         request |= {name: os.path.abspath(path) for name, path in (("from", plan.source), ("disk", plan.disk)) if path}
     elif plan.verb == "alone" and plan.standby:
         request["standby"] = plan.standby

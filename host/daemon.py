@@ -149,6 +149,7 @@ class Daemon:
     def start(self, live):
         """The guest runs from now on, and bridges learn where it is."""
         self.kept.goes_live(live.generation)
+        self.meeting.goes_live()
         self.live = live
         self.network.up()
         self.network.put(network.announcement(self.settings.guest_address))
@@ -162,6 +163,7 @@ class Daemon:
         self.log.info("frozen: the guest is kept, and doesn't run")
 
     def thaw(self, now):
+        self.meeting.goes_live()
         self.live.go_on(now)
         self.network.up()
         self.network.put(network.announcement(self.settings.guest_address))

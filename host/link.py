@@ -35,7 +35,7 @@ class Link:
         self.listener = listening(settings.listen) if settings.listen else None
         self.strangers, self.callers, self.call, self.tcp, self.tcp_begun = [], [], None, None, 0.0
         self.connection, self.session = None, None  # the attached connection, and its session's name
-        self.dial_at, self.heard_at, self.lost_at = 0.0, None, None
+        self.dial_at, self.heard_at = 0.0, None
         self.connects_in = min(max(settings.link_ms / 2, AGAIN), PATIENCE)  # seconds, for a connection to the peer to come about
         self.meeting = self.attached = self.lost = None
         self.now = time.monotonic
@@ -87,6 +87,7 @@ class Link:
             except Closed:
                 pass
             self.connection.close()
+            self.meeting.parted(self.heard_at)
         self.connection, self.session = None, None
         self.dial_at = self.now() + AGAIN
 
@@ -192,8 +193,13 @@ class Link:
         """The peer calls by itself: it needn't be dialled."""
         self.dial_at = max(self.dial_at, now + 2 * AGAIN)
 
+    def dial_soon(self, now: float) -> None:
+        self.dial_at = min(self.dial_at, now)
+
     def cannot_dial(self, number: int, now: float) -> None:
         self.dial_at = now + AGAIN
+        if number == errno.ECONNREFUSED:
+            self.meeting.is_gone()
         why = "nothing answers there" if number == errno.ETIMEDOUT else os.strerror(number)
         self.trouble.is_so(f"the peer at {self.peer_place} can't be reached: {why}")
 

@@ -27,6 +27,7 @@ class Meeting:
         self.drift = Drift(host.settings, host.log)
         self.protecting, self.standing_by = Backoff(), Backoff()  # how long after a failure the next standby is taken; is asked for
         self.peer_role, self.live_at = None, None  # what the peer said last that it is; when it said that it is live, if it is
+        self.says_every, self.is_by_call = 0.0, False  # how often it says so, if that isn't all the time; whether this host had called it
         self.said_role = None  # what this host said last that it is, as it called the peer
         self.conflict = Trouble(host.log)
 
@@ -74,7 +75,7 @@ class Meeting:
         host, live = self.host, self.host.live
         if hello["version"] != messages.VERSION:
             return self.refuse(connection, f"it speaks version {hello['version']} of the link, and this host {messages.VERSION}")
-        self.is_told(hello["role"], now)
+        self.is_told(hello["role"], now, is_by_call=False)
         if live:
             live.heard_of(hello["name"], hello["instance"])
         if host.role != "live":
@@ -175,39 +176,47 @@ class Meeting:
         self.conflict.is_so(f"two hosts are live: {why}. This host gives way", "error")
         self.host.freeze()
 
-    def is_told(self, role, now):
+    def is_told(self, role: str, now: float, is_by_call: bool = True) -> None:
         """The peer says what it is."""
-        self.peer_role = role
-        if role == "live":
-            self.live_at = None if self.link.is_up else now  # over an attached link it says so all the time
-        else:
-            self.live_at = None
+        self.peer_role, self.is_by_call = role, is_by_call
+        self.live_at, self.says_every = now if role == "live" else None, SAYS_AGAIN
+        if role != "live":
             self.conflict.is_over("one host is live, not two")
 
-    def hears_live(self, now):
-        """Whether the peer says over a link that works that it is live."""
-        link = self.host.link
-        if link.is_up:
-            return self.host.live is None and now - link.heard_at < self.silence
-        return self.live_at is not None and now - self.live_at < SAYS_AGAIN
+    def parted(self, heard_at: float) -> None:
+        """The attached link is over, over which something came last then: a live host's standby was told so that it is live."""
+        if self.host.live is None:
+            self.live_at, self.says_every, self.is_by_call = heard_at, 0.0, True
 
-    def are_two_live(self, now):
-        return self.host.role == "live" and self.hears_live(now)
+    def is_gone(self) -> None:
+        """Nothing listens any more where this host has called the peer: its daemon has ended."""
+        if self.is_by_call:
+            self.live_at = None
+
+    def goes_live(self) -> None:
+        """This host is live from now on: that the peer is too it has to hear again."""
+        self.live_at = None
+
+    def heard_live_at(self) -> float | None:
+        """When the peer said last that it is live; None where it said otherwise since, or its daemon has ended. Over the link of its standby
+        each message says so."""
+        link = self.host.link
+        return link.heard_at if link.is_up and self.host.live is None else self.live_at
+
+    def may_live(self, now: float, is_fenced: bool) -> bool:
+        """Whether the peer may be live, by what it said. One that is made sure to be off has nothing under way any more."""
+        at, settings = self.heard_live_at(), self.host.settings
+        silence = max(settings.link_ms, 0.0 if self.link.is_up else self.says_every)
+        if is_fenced:
+            silence = min(settings.link_ms / 2, LEAST_SILENCE + 2 * LONG * settings.epoch_ms)
+        return at is not None and now - at < silence
+
+    def are_two_live(self, now: float) -> bool:
+        return self.host.role == "live" and self.live_at is not None and now - self.live_at < SAYS_AGAIN
 
     def role_of_peer(self, now):
         """What it said last; the standby of a live host is that as long as it doesn't say otherwise."""
         return "standby" if self.host.session and self.host.live and not self.are_two_live(now) else self.peer_role
-
-    @property
-    def silence(self):
-        """For how long a live host that is attached says nothing, at the most."""
-        settings = self.host.settings
-        return min(settings.link_ms / 2, LEAST_SILENCE + 2 * LONG * settings.epoch_ms)
-
-    def heard_live_at(self):
-        """When the peer said so last."""
-        link = self.host.link
-        return link.heard_at if link.is_up else self.live_at
 
     def stale(self, connection, hello):
         """A host comes with an attachment that isn't this one's. Where it has no full checkpoint it has nothing to lose."""
@@ -327,8 +336,8 @@ class Meeting:
 
     def turned_away(self, told):
         """The live host has thought better of the attachment that it offered."""
-        self.is_told(told["role"], self.link.now())
         self.link.close()
+        self.is_told(told["role"], self.link.now())
         self.give_up(f"{told['name']} doesn't take this host as its standby: {told['why']}")
 
     def take_offer(self, connection, session, offer, now):
@@ -368,7 +377,7 @@ class Meeting:
         self.compare(now)
 
     def met(self, connection, session, told, now):
-        self.peer_role, self.live_at, self.host.peer = "live", None, (told["name"], told["instance"])
+        self.peer_role, self.host.peer = "live", (told["name"], told["instance"])
         self.conflict.is_over("one host is live, not two")
         self.link.attach(connection, session, now)
 

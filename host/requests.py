@@ -47,7 +47,7 @@ Reader = Callable[[object], Any]
 REQUESTS: dict[str, dict[str, tuple[str, Reader]]] = {
     "status": {},
     "promote": {"boot": ("boot", truth), "new": ("new", truth), "from": ("source", path), "disk": ("disk", path), "bare": ("bare", truth),
-                "without_peer": ("without_peer", truth), "force": ("force", truth)},
+                "without_peer": ("without_peer", truth), "fenced": ("fenced", truth), "force": ("force", truth)},
     "alone": {"standby": ("standby", name)},
     "drain": {"promote": ("promote", truth), "within_ms": ("within", within)},
     "demote": {},

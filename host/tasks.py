@@ -1,7 +1,7 @@
 """What takes more than a turn of the loop: a drain, a snapshot, and a promotion where the peer seems to be live. One may be under way at a
 time."""
 from collections.abc import Callable
-from typing import Any
+from typing import Any, Protocol
 
 from host.files import WholeFile
 from host.live import MOST_PENDING
@@ -11,6 +11,16 @@ from host.snapshot import Header, check_replaced
 
 Answer = dict[str, Any]
 Tell = Callable[[Answer], None]
+
+
+class Asker(Protocol):
+    """Who asked, to whom the answer goes."""
+
+    def __call__(self, answer: Answer) -> None: ...
+
+    def is_gone(self) -> bool:
+        """Whether he reads no answer any more."""
+
 
 ON_ITS_WAY = 0.05  # seconds, within which what comes from the peer may have been said before
 LOOKS = 0.01  # seconds, from one look at what the peer says to the next
@@ -113,26 +123,35 @@ class Drain:
 
 
 class Promotion:
-    """It is done once the peer says no more that it is live, over a link that works, and refused where it does. What was on its way as it
-    was asked for says nothing: who asks may have ended the peer just before. `does` does it, and answers what is to be answered."""
+    """It is done once the peer, which was live when it was heard last, says that it isn't, or has ended, or has said nothing for longer than
+    a live host that is reached does; and refused where it says again that it is. What was on its way as it was asked for says nothing: who
+    asks may have ended the peer just before. Who asks and leaves meanwhile doesn't want it any more. `does` does it, and answers what is to
+    be answered."""
 
     name = "a promotion is under way"
 
-    def __init__(self, host: Any, does: Callable[[], Answer], answer: Tell, now: float) -> None:
-        self.host, self.does, self.answer, self.begun = host, does, answer, now
+    def __init__(self, host: Any, does: Callable[[], Answer], is_fenced: bool, answer: Asker, now: float) -> None:
+        self.host, self.does, self.is_fenced, self.answer, self.begun = host, does, is_fenced, answer, now
+        self.has_dialled = False
 
     def due(self, now: float) -> float:
         return now + LOOKS
 
     def turn(self, now: float) -> None:
         host, meeting = self.host, self.host.meeting
-        if not meeting.hears_live(now):
+        if self.answer.is_gone():
+            host.task = None
+            self.answer(refusal("Unwanted", "who asked for this promotion reads no answer any more"))
+        elif not meeting.may_live(now, self.is_fenced):
             host.task = None
             self.answer(self.does())
         elif meeting.heard_live_at() > self.begun + ON_ITS_WAY:
             host.task = None
             self.answer(refusal("PeerIsLive", "the peer says over the link that it is live: drain it or stop it first; 'force' promotes "
                                               "this host all the same, and then two hosts are live"))
+        elif not host.link.is_up and not self.has_dialled:
+            self.has_dialled = True
+            host.link.dial_soon(now)
 
     def fail(self, why: str) -> None:
         """Something went wrong that nobody expected."""

@@ -9,14 +9,15 @@ from host.guarded import guarded
 from host.live import ALONE, PAIRED
 from host.node import Refused
 from host.snapshot import NoBoot, NotASnapshot, boot_over, load
-from host.tasks import Answer, Drain, Promotion, Save, Tell, refusal
+from host.tasks import Answer, Asker, Drain, Promotion, Save, Tell, refusal
 
 
 class Once:
-    """Tells the first answer, and no other one."""
+    """An asker who is told the first answer, and no other one."""
 
-    def __init__(self, tell: Tell) -> None:
+    def __init__(self, tell: Tell, is_gone: Callable[[], bool]) -> None:
         self.tell: Tell | None = tell
+        self.is_gone = is_gone
 
     def __call__(self, answer: Answer) -> None:
         tell, self.tell = self.tell, None
@@ -30,9 +31,9 @@ class Verbs:
     def __init__(self, host: Any) -> None:
         self.host = host
 
-    def do(self, line: bytes, answer: Tell) -> None:
-        """Does what a line asks for. `answer` is called with the answer, now or later, and once."""
-        tell = Once(answer)
+    def do(self, line: bytes, answer: Tell, is_gone: Callable[[], bool] = lambda: False) -> None:
+        """Does what a line asks for. `answer` is called with the answer, now or later, and once, unless who asked is gone."""
+        tell = Once(answer, is_gone)
         try:
             verb, given = requests.read(line)
         except requests.Wrong as wrong:
@@ -43,7 +44,7 @@ class Verbs:
         if done is not None:
             tell(done)
 
-    def done(self, verb: str, tell: Tell, given: dict[str, Any]) -> Answer | None:
+    def done(self, verb: str, tell: Asker, given: dict[str, Any]) -> Answer | None:
         try:
             return getattr(self, verb)(tell, **given)
         except Refused as refused:
@@ -70,8 +71,8 @@ class Verbs:
     def metrics(self, answer: Tell) -> Answer:
         return {"ok": True, "text": metrics.text(self.host)}
 
-    def promote(self, answer: Tell, boot: bool = False, new: bool = False, source: str | None = None, disk: str | None = None,
-                bare: bool = False, without_peer: bool = False, force: bool = False) -> Answer | None:
+    def promote(self, answer: Asker, boot: bool = False, new: bool = False, source: str | None = None, disk: str | None = None,
+                bare: bool = False, without_peer: bool = False, fenced: bool = False, force: bool = False) -> Answer | None:
         host, now = self.host, time.monotonic()
         if host.role == "live" and not (source or disk or new):
             return self.lives("this host is live already")
@@ -84,9 +85,9 @@ class Verbs:
             return why_not() or (self.begin(source, disk, bare) if begins else self.go_on())
 
         why = why_not()
-        if force or not host.meeting.hears_live(now) or why is not None and why["refused"] != "PeerUnknown":  # who lives is heard
+        if force or not host.meeting.may_live(now, fenced) or why is not None and why["refused"] != "PeerUnknown":  # who lives is heard
             return does()
-        host.task = Promotion(host, lambda: self.promoted(does), answer, now)
+        host.task = Promotion(host, lambda: self.promoted(does), fenced, answer, now)
         return None
 
     def promoted(self, does: Callable[[], Answer]) -> Answer:

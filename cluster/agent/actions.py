@@ -354,10 +354,15 @@ class Pair:
                 reason = why_not(status, life)
                 if reason:
                     raise Failure(GENERIC, reason)
-                self.daemon.command("promote")
+                self.daemon.command("promote", **({"fenced": True} if self.has_stopped_other() else {}))
         status = self.running()
         self.refuse_stale(status)
         self.name_life(status)
+
+    def has_stopped_other(self) -> bool:
+        """Whether Pacemaker had the other instance stopped just before, by its agent or by fencing, which it orders so. Then what the daemon
+        heard of its peer before says nothing. After all else, as a demote, the daemon looks for itself whether that is live."""
+        return any(node != self.cluster.node for node in meta("notify_stop_uname").split())
 
     def boot(self, booting: str) -> None:
         """Boots the guest. The property is written before, so that it is there whatever becomes of this host meanwhile."""
