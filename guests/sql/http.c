@@ -8,6 +8,7 @@
 #include "query.h"
 #include "request.h"
 #include "table.h"
+#include "whole.h"
 
 #define METHODS "GET, HEAD, POST, OPTIONS"
 
@@ -21,6 +22,8 @@ struct browser {
     struct text body;       /* of the answer */
     int status;
     struct failure failure; /* where the status isn't 200 */
+    enum form wanted;       /* of the whole database, which is still to be said */
+    struct whole whole;
     struct visitor visitor;
     uint32_t taken;         /* bytes of what came that are dealt with */
     uint32_t unread;        /* bytes of a body that is passed over, after which the connection ends */
@@ -50,11 +53,9 @@ static const char *reason(int status) {
     }
 }
 
-/* Sends an answer. Of one to HEAD the body is left out. Without memory for it the connection ends. */
-static void answer(struct browser *browser, int status, const char *type, const char *bytes, uint32_t length) {
-    struct session *session = &browser->session;
-    struct text *out = &session->out;
-    uint32_t begun = out->length;
+/* The first lines of an answer's head. */
+static void begin_head(struct browser *browser, int status) {
+    struct text *out = &browser->session.out;
     add(out, "HTTP/1.1 ");
     add(out, reason(status));
     add(out, browser->request.is_kept ? "" : "\r\nConnection: close");
@@ -62,6 +63,14 @@ static void answer(struct browser *browser, int status, const char *type, const 
     add(out, status == 401 ? "\r\nWWW-Authenticate: Basic realm=\"sql\"" : "");
     add(out, status == 429 ? "\r\nRetry-After: 10" : "");
     add(out, "\r\nCache-Control: no-store");
+}
+
+/* Sends an answer. Of one to HEAD the body is left out. Without memory for it the connection ends. */
+static void answer(struct browser *browser, int status, const char *type, const char *bytes, uint32_t length) {
+    struct session *session = &browser->session;
+    struct text *out = &session->out;
+    uint32_t begun = out->length;
+    begin_head(browser, status);
     if (status != 204) {
         add(out, "\r\nContent-Type: ");
         add(out, type);
@@ -198,6 +207,61 @@ static void take_question(struct browser *browser, const char *body) {
     sqlite3_free(decoded);
 }
 
+/* The whole database. */
+
+static void say_head_of_whole(struct browser *browser) {
+    struct text *out = &browser->session.out;
+    const struct whole *whole = &browser->whole;
+    begin_head(browser, 200);
+    if (whole->form == AS_SQL) {
+        add(out, "\r\nContent-Type: application/sql; charset=utf-8");
+        add(out, whole->is_in_chunks ? "\r\nTransfer-Encoding: chunked" : "");
+    } else {
+        add(out, "\r\nContent-Type: application/vnd.sqlite3\r\nContent-Length: ");
+        add_number(out, (int64_t)whole_length(whole));
+        add(out, "\r\nCksum: ");
+        add_number(out, whole->sum);
+    }
+    add(out, "\r\n\r\n");
+}
+
+static void refuse_whole(struct browser *browser, const struct failure *failure) {
+    browser->wanted = NO_FORM;
+    browser->body = (struct text){.most = MOST_ANSWER};
+    has_failed_query(&browser->session, failure);
+    answer_question(browser);
+}
+
+static void say_whole(struct browser *browser) {
+    struct session *session = &browser->session;
+    struct whole *whole = &browser->whole;
+    browser->request.is_kept &= whole->form == AS_FILE || !browser->request.is_old;
+    whole->is_in_chunks = whole->form == AS_SQL && !browser->request.is_old;
+    say_head_of_whole(browser);
+    int is_said = browser->request.method != HEAD && whole_say(whole);
+    whole_end(whole);
+    session->is_ending |= !browser->request.is_kept || (browser->request.method != HEAD && !is_said);
+}
+
+static void send_whole(struct browser *browser) {
+    struct failure failure;
+    switch (whole_begin(&browser->session, browser->wanted, &browser->whole, &failure)) {
+    case ENDED:
+        browser->wanted = NO_FORM;
+        say_whole(browser);
+        break;
+    case FAILED: refuse_whole(browser, &failure); break;
+    default: session_wait(&browser->session); return;
+    }
+    session_rest(&browser->session);
+}
+
+static void ask_whole(struct browser *browser, enum form form) {
+    session_begin(&browser->session);
+    browser->wanted = form;
+    send_whole(browser);
+}
+
 static void say_log(struct browser *browser) {
     const char *lines = log_lines()[0] == '\0' ? "nothing was said\n" : log_lines();
     answer(browser, 200, "text/plain", lines, (uint32_t)strlen(lines));
@@ -213,8 +277,12 @@ static void take_request(struct browser *browser, const char *body) {
         answer(browser, 200, "text/html", page, (uint32_t)strlen(page));
     else if (strcmp(request->path, "/log") == 0 && request->method != POST)
         say_log(browser);
+    else if (strcmp(request->path, "/db") == 0 && request->method != POST)
+        ask_whole(browser, AS_FILE);
+    else if (strcmp(request->path, "/dump") == 0 && request->method != POST)
+        ask_whole(browser, AS_SQL);
     else
-        refuse(browser, 404, "there are /, /sql and /log\n");
+        refuse(browser, 404, "there are /, /sql, /db, /dump and /log\n");
 }
 
 /* The connection. */
@@ -228,6 +296,8 @@ static void end_with(struct browser *browser, int status, const char *why, uint3
     refuse(browser, status, why);
 }
 
+static int is_data(const char *path) { return strcmp(path, "/sql") == 0 || strcmp(path, "/db") == 0 || strcmp(path, "/dump") == 0; }
+
 /* Lets a request in by its head alone, before its body takes memory. Answers whether it is let in; where the session waits it may be
    yet. */
 static int let_in(struct browser *browser) {
@@ -237,7 +307,7 @@ static int let_in(struct browser *browser) {
         end_with(browser, 405, "GET, HEAD, POST and OPTIONS are served\n", whole);
         return 0;
     }
-    if (request->is_strange && strcmp(request->path, "/sql") == 0) {
+    if (request->is_strange && is_data(request->path)) {
         end_with(browser, 403, "a page of another place may not ask; a browser asks from the page at /\n", whole);
         return 0;
     }
@@ -310,6 +380,8 @@ static void take(struct session *session) {
 static void go_on(struct session *session) {
     if (of(session)->query.text != NULL)
         query_go_on(session, &of(session)->query);
+    else if (of(session)->wanted != NO_FORM)
+        send_whole(of(session));
     if (!session->is_waiting)
         take(session);
 }
@@ -323,7 +395,12 @@ static void end_of_input(struct session *session) {
 static void give_up(struct session *session, const struct failure *failure, int was_waiting) {
     (void)was_waiting;
     session->was_block = is_in_block(session);
-    query_fail(session, &of(session)->query, failure);
+    if (of(session)->wanted != NO_FORM) {
+        refuse_whole(of(session), failure);
+        session_rest(session);
+    } else {
+        query_fail(session, &of(session)->query, failure);
+    }
 }
 
 static void drop(struct session *session) {

@@ -9,7 +9,7 @@ const char page[] =
     "<p>Tables: <span id=t></span></p>\n"
     "<form id=f action=/sql><textarea name=q id=q rows=5>SELECT sqlite_version(), datetime('now')</textarea>\n"
     "<p><button>Run</button> <small id=s>or Ctrl+Enter. psql speaks to it on port 5432.</small></form><div id=o></div>\n"
-    "<p><small><a href=/log>What SQLite said</a></small>\n"
+    "<p><small><a href=/db download=db.sqlite>The database</a>, <a href=/dump download=db.sql>as SQL</a>, <a href=/log>what SQLite said</a></small>\n"
     "<script>\n"
     "const id=n=>document.getElementById(n),el=(n,t)=>{const e=document.createElement(n);if(t!=null)e.textContent=t;return e};\n"
     "const ask=async q=>{const a=await fetch('/sql',{method:'POST',body:q,headers:{Accept:'application/json'}});return a.json()};\n"

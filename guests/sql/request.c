@@ -54,7 +54,8 @@ static int read_line(const char *at, uint32_t length, struct request *request) {
     memcpy(request->path, first + 1, path);
     request->asked = asked == NULL ? NULL : asked + 1;
     request->asked_length = asked == NULL ? 0 : (uint32_t)(second - asked - 1);
-    request->is_kept = second[8] != '0';
+    request->is_old = second[8] == '0';
+    request->is_kept = !request->is_old;
     return 0;
 }
 

@@ -17,6 +17,7 @@ struct request {
     uint32_t head;         /* bytes of the head, with the blank line */
     uint32_t length;       /* of the body */
     int has_length;        /* that is told */
+    int is_old;            /* of HTTP/1.0, which has no chunks */
     int is_kept;           /* the connection stays after the answer */
     int is_expecting;      /* the client waits to be told that its body is wanted */
     int is_form;           /* the body is a form's */

@@ -18,6 +18,9 @@
 #define ROUND 2
 #define LOOKS 16
 
+/* A session that says more than there is room for goes on when no more than this is left to send. */
+#define LITTLE_UNSENT (8 * 1024)
+
 static struct session *sessions;
 static uint64_t tickets, round = 1;
 
@@ -150,7 +153,7 @@ static void comes_to_rest(struct session *session) {
 }
 
 static void goes_on_later(struct session *session) {
-    session->is_due = 1;
+    session->is_due = !session->is_sending;
     if (!session->is_gone)
         carry(session);
 }
@@ -264,7 +267,23 @@ uint32_t session_sendable(const struct session *session) {
     return session->turn.is_begun || session->is_waiting ? session->settled : session->out.length;
 }
 
+static uint32_t left_to_send(const struct session *session) { return session->out.length - session->sent; }
+
+int session_stream(struct session *session) {
+    session_settle(session);
+    while (!session_is_stopped(session) && left_to_send(session) > LITTLE_UNSENT) {
+        session->is_sending = 1;
+        turn_leave();
+        session->is_sending = 0;
+    }
+    text_shift(&session->out, session->sent);
+    session->settled = session->out.length;
+    session->sent = 0;
+    return session->stop == NOT_STOPPED;
+}
+
 int session_is_sent(struct session *session) {
+    session->is_due |= session->is_sending && left_to_send(session) <= LITTLE_UNSENT;
     if (session->turn.is_begun || session->is_waiting || session->sent < session->out.length)
         return 0;
     session->sent = session->settled = session->out.length = 0;
@@ -316,9 +335,9 @@ void session_stop(struct session *session, enum stop why) {
     if (!session->turn.is_begun && !session->is_waiting && why != WAS_IDLE)
         return;
     session->stop = why;
-    if (!session->turn.is_begun)
+    if (!session->turn.is_begun || session->is_sending)
         want_turn(session);
-    else if (session->database != NULL)
+    if (session->turn.is_begun && session->database != NULL)
         sqlite3_interrupt(session->database);
 }
 

@@ -65,6 +65,7 @@ struct session {
     int is_due;        /* it is to have one */
     int is_waiting;    /* for a lock, or at the door */
     int is_held;       /* questions are left until what was answered is sent */
+    int is_sending;    /* within its work, until little of what it said is left to send */
     uint64_t round;    /* in which it had its last one */
     uint64_t ticket;   /* whose turn it is in a round: the lowest one's; 0: it wants none */
     uint64_t waits_since; /* for a lock, in milliseconds; 0: it doesn't */
@@ -123,6 +124,10 @@ void session_stop(struct session *session, enum stop why);
 
 /* Within what it does, where that takes long: lets others have their turns. Answers whether it is to stop. */
 int session_is_stopped(struct session *session);
+
+/* Within what it does: what was said is sent, and stays said. It goes on once little of that is left, in turns with all else. Answers 0
+   where it is to stop. */
+int session_stream(struct session *session);
 
 /* What it waited for at the door is there. */
 void session_wake(struct session *session);

@@ -368,4 +368,21 @@ uint64_t vfs_length(int file) { return head.exists[file] ? head.length[file] : 0
 
 uint64_t vfs_room(int file) { return (uint64_t)(areas[file + 1] - areas[file]) * SECTOR; }
 
+int vfs_read(int file, uint64_t at, void *to, uint32_t count) {
+    if (at + count > vfs_length(file))
+        return 0;
+    read_bytes(areas[file], at, to, count);
+    turn_look();
+    return 1;
+}
+
+const void *vfs_index(void) { return index_parts[0]; }
+
+uint32_t vfs_read_locks(sqlite3 *database) {
+    sqlite3_file *file = NULL;
+    if (sqlite3_file_control(database, "main", SQLITE_FCNTL_FILE_POINTER, &file) != SQLITE_OK || file == NULL)
+        return 0;
+    return of(file)->log.read;
+}
+
 int vfs_register(void) { return sqlite3_vfs_register(&vfs, 1); }

@@ -4,6 +4,8 @@
 
 #include <stdint.h>
 
+#include "sqlite3.h"
+
 /* The name of the one database. */
 #define DATABASE "/db"
 
@@ -24,6 +26,14 @@ int vfs_start(void);
 /* How long a file is, and how long it may become, in bytes. */
 uint64_t vfs_length(int file);
 uint64_t vfs_room(int file);
+
+/* What stands in a file, past SQLite: so many bytes from a place on. Answers whether it has them. */
+int vfs_read(int file, uint64_t at, void *to, uint32_t count);
+
+/* The log's index, of which there are a part's bytes or none (https://sqlite.org/walformat.html#the_wal_index_file_format), and by which of
+   the log's locks a connection reads, a bit for each; it must have the database open. */
+const void *vfs_index(void);
+uint32_t vfs_read_locks(sqlite3 *database);
 
 /* Makes the file system SQLite's default. Answers as SQLite does. */
 int vfs_register(void);

@@ -5,6 +5,7 @@
      take PLACE HEX     these bytes come
      end PLACE          the client says no more
      look PLACE         nothing
+     slow PLACE N       no more than N bytes are taken of what is said to it from here on
      later N            N milliseconds go by
      turn               a turn of the guest's loop
 
@@ -28,6 +29,7 @@
 static struct place {
     struct session *session;
     struct text said;
+    uint32_t takes; /* so many bytes yet */
 } places[PLACES];
 
 static struct place *place_of(const struct session *session) {
@@ -39,8 +41,10 @@ static struct place *place_of(const struct session *session) {
 
 void carry(struct session *session) {
     struct place *place = place_of(session);
-    add_bytes(&place->said, session->out.bytes + session->sent, session_sendable(session) - session->sent);
-    session->sent = session_sendable(session);
+    uint32_t left = session_sendable(session) - session->sent, count = left < place->takes ? left : place->takes;
+    add_bytes(&place->said, session->out.bytes + session->sent, count);
+    session->sent += count;
+    place->takes -= count;
     if (!session_is_sent(session) && !is_too_quiet(session))
         return;
     session_drop(session);
@@ -73,9 +77,12 @@ static void do_to(struct place *place, const char *what, const char *with) {
     static uint8_t bytes[MOST];
     if (strcmp(what, "open") == 0) {
         place->said.most = 64 * MOST;
+        place->takes = UINT32_MAX;
         place->session = session_start(atoi(with) == http.port ? &http : &postgres, NULL);
     } else if (place->session != NULL) {
-        if (strcmp(what, "take") == 0)
+        if (strcmp(what, "slow") == 0)
+            place->takes = (uint32_t)atoi(with);
+        else if (strcmp(what, "take") == 0)
             session_take(place->session, bytes, bytes_of(with, bytes));
         else if (strcmp(what, "end") == 0)
             place->session->service->end_of_input(place->session);

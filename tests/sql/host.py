@@ -17,9 +17,10 @@ FLAGS = ["-std=gnu11", "-O1", "-Wall", "-Wextra", "-Werror", "-DDISK_SECTORS=409
          "-DFIRST_LOG_SECTOR=3584", f"-I{HERE}", f"-I{GUEST}"]
 FILES = ["vfs", "locks", "turns", "database"]
 SANITIZERS = ["-g", "-fsanitize=address,undefined", "-fno-sanitize-recover=all"]
-UNITS = ["digest", "locks", "statement", "request"]
+UNITS = ["digest", "locks", "statement", "request", "cksum"]
 SESSIONS = ["text", "log", "settings", "patterns", "functions", "digest", "password", "scram", "statement", "session", "work", "query",
-            "rows", "messages", "parameters", "types", "trigger", "extended", "postgres", "request", "table", "page", "door", "http"]
+            "rows", "messages", "parameters", "types", "trigger", "extended", "postgres", "request", "table", "page", "door", "cksum", "pages", "dump", "whole",
+            "http"]
 HOSTS = ["disk", "stacks"]  # what the guest has otherwise
 
 

@@ -3,6 +3,7 @@
 #include <stdlib.h>
 #include <string.h>
 
+#include "../../guests/sql/cksum.h"
 #include "../../guests/sql/digest.h"
 #include "../../guests/sql/locks.h"
 #include "../../guests/sql/request.h"
@@ -27,6 +28,11 @@ static void print(const uint8_t *bytes, uint32_t count) {
     for (uint32_t i = 0; i < count; i++)
         printf("%02x", bytes[i]);
     printf("\n");
+}
+
+static void sums(char *words[]) {
+    uint32_t count = bytes_of(words[0], one);
+    printf("%u\n", cksum_end(cksum(0, one, count), count));
 }
 
 /* All rounds, some at a time. */
@@ -118,6 +124,8 @@ int main(void) {
             statements(words);
         else if (strcmp(name, "request") == 0)
             requests(words);
+        else if (strcmp(name, "cksum") == 0)
+            sums(words);
         else if (strstr(name, "base64") != NULL)
             base64s(name, words);
         else if (strcmp(name, "sha") == 0 || strcmp(name, "hmac") == 0 || strcmp(name, "stretch") == 0)
