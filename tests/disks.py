@@ -3,6 +3,7 @@ keeps account of what isn't synced, so that a test can lose that after the daemo
 import errno
 import os
 import random
+import time
 from pathlib import Path
 
 from host.log.disk import Disk
@@ -44,7 +45,11 @@ class Losing(Disk):
     done to names since the folder was synced. What is replaced or removed is kept in `account` until then."""
 
     def __init__(self) -> None:
-        self.paths, self.kept = {}, 0
+        self.paths, self.kept, self.slow = {}, 0, float(os.environ.get("REMUS_SLOW_MS", 0)) / 1000
+
+    def wait(self) -> None:
+        """A sync takes up to REMUS_SLOW_MS longer, so that power fails before it more often."""
+        time.sleep(random.random() * self.slow)
 
     def account(self, folder: Path) -> Path:
         found = folder.parent / "account"
@@ -91,6 +96,7 @@ class Losing(Disk):
     def sync(self, file: int) -> None:
         path = self.paths[file]
         size = max(self.written(file), known(self.account(path.parent), path.name))
+        self.wait()
         super().sync(file)
         self.synced(path, size)
 
@@ -106,8 +112,8 @@ class Losing(Disk):
 
     def rename(self, path: Path, to: Path) -> None:
         aside = self.put_aside(to)
-        super().rename(path, to)
         self.synced(to, known(self.account(path.parent), path.name))
+        super().rename(path, to)
         self.paths = {file: to if of == path else of for file, of in self.paths.items()}
         self.tell(path.parent, "renamed", path.name, to.name, aside)
 
@@ -117,6 +123,7 @@ class Losing(Disk):
             super().remove(path)
 
     def sync_folder(self, folder: Path) -> None:
+        self.wait()
         super().sync_folder(folder)
         self.tell(folder, "synced")
 
