@@ -17,6 +17,7 @@ pcs resource create pair ocf:remus:pair config=/etc/remus/host.toml \
     op monitor role=Unpromoted interval=2s timeout=20s \
     meta priority=10 migration-threshold=0 \
     promotable promoted-max=1 clone-max=2 clone-node-max=1 notify=true interleave=true
+pcs constraint location pair-clone rule constraint-id=pair-scored role=Promoted score=-INFINITY not_defined master-pair
 pcs resource defaults update resource-stickiness=1
 # To the system's log; by `pcs alert recipient add pair-alert value=/usr/local/bin/page-me` to your own program too.
 pcs alert create path=/usr/lib/remus/cluster/alert id=pair-alert

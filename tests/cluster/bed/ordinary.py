@@ -220,6 +220,33 @@ def stale(row, times: int) -> None:
         bed.pair()
 
 
+def returns(row, times: int) -> None:
+    """A move is never cleared, and the host that it names fails and comes back: the guest stays until that has a full checkpoint, and moves
+    there then."""
+    bed = row.bed
+    for row.tries in range(1, times + 1):
+        live, standby = bed.pair()
+        bed.move(live, standby)
+        bed.pair()
+        life = bed.status(standby)["life"]
+        bed.power.boots = False
+        bed.power.cut(standby)
+        bed.until(lambda: bed.live_is(live), 30, "the other host live")
+        begin = time.time()
+        with row.clients() as clients:
+            time.sleep(1)
+            bed.power.boots = True
+            bed.power.on(standby)
+            bed.until(lambda: bed.live_is(standby), 60, "the guest's move back")
+            time.sleep(1)
+        row.note("paused", clients.paused(begin))
+        row.expect(clients.paused(begin) < 1, f"the guest stood for {clients.paused(begin):.2f} s")
+        row.expect(not bed.failure(live, standby), f"an action failed: {bed.failure(live, standby)}")
+        row.check(clients)
+        bed.clear_move(live)
+        goes_on(row, life, bed.pair()[0], begin)
+
+
 def certificates(row, times: int) -> None:
     """The standby's host is installed anew, with new keys, and comes back without a stop of the guest."""
     bed = row.bed
