@@ -8,6 +8,7 @@ from host.looks import Looks
 from host.node import LOOK, MADE, OUTBOX, PIECE, STEPS, arrive, looks, text_from
 from host.pacing import TRY_EVERY, Pacer
 from host.text import MOST_PAGE, pages_and_frames
+from host.troubles import Trouble
 
 ALONE, FILLING, PAIRED = "alone", "filling", "paired"
 MOST_PENDING = 4  # checkpoints
@@ -20,6 +21,7 @@ ASKED = 0.02  # for so many seconds after a frame came or went the network asks 
 SOON = 0.0002  # seconds, in slices of which a protected guest runs while it is asked
 EARLY = 0.0005  # seconds: an epoch whose guest has something to say ends no earlier, and no later than so long after that was seen
 CUT_NEEDED = b"13"  # the refusal of a step where the outbox is full
+STANDS = 3.0  # seconds without an acknowledgement, after which it is said that the guest stands: a cluster manager needs fewer
 
 
 class Pending:
@@ -59,7 +61,7 @@ class Live:
         self.turning, self.turn_wanted = None, False  # into a later generation, for the standby's log
         self.late, self.acked_at, self.waited_since = 0.0, now, None
         self.longest = 0.0  # seconds from steps of the guest to the next, though it didn't wait
-        self.watch, self.pacer, self.looks = Watch(), Pacer(self), Looks(host, self, now)
+        self.watch, self.pacer, self.looks, self.stand = Watch(), Pacer(self), Looks(host, self, now), Trouble(self.log)
         self.start_clock(now)
 
     def start_clock(self, now: float) -> None:
@@ -91,6 +93,24 @@ class Live:
     def waits(self):
         """Whether the guest waits, since the link is gone and no more checkpoints may be pending."""
         return len(self.pending) >= MOST_PENDING and not self.is_linked
+
+    def why_stands(self, now: float) -> str | None:
+        """For whom the guest, or all that it sends, waits for a while, and what lets it go on; None where it doesn't."""
+        if not self.pending or now - self.acked_at < STANDS or self.standby is None or self.is_stopped:
+            return None
+        if self.is_linked and len(self.pending) < MOST_PENDING:
+            return None
+        name, instance = self.standby
+        once = (f"another instance, {self.successor}, has come from there since, so it has ended" if self.successor else
+                "once its host is surely off, or its daemon has ended")
+        return (f"the guest stands, since {name} acknowledges nothing; {once}: 'remus-host ctl alone --standby {instance}' lets it go on, "
+                "unless a cluster manager does")
+
+    def say_whether_stands(self, now: float) -> None:
+        if (why := self.why_stands(now)) is not None:
+            self.stand.is_so(why, "error")
+        elif self.stand.why is not None:
+            self.stand.is_over("the guest doesn't stand any more")
 
     @property
     def is_patient(self):
@@ -152,6 +172,8 @@ class Live:
             self.run(now)
             if self.mode == ALONE and now >= self.looks.at:
                 self.looks.turn(now)
+        if self.pending and now - self.acked_at >= STANDS or self.stand.why is not None:
+            self.say_whether_stands(now)
         self.send(now)
 
     # The guest.

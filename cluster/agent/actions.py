@@ -6,7 +6,7 @@ import time
 
 from agent import parameters
 from agent.cluster import Cluster
-from agent.daemon import PATIENCE_SECONDS, Daemon, Silent
+from agent.daemon import PATIENCE_SECONDS, Daemon, Declined, Silent
 from agent.life import SCORE_FIRST, SCORE_FULL, SCORE_LIVE, SCORE_WAITS, Life, alone_in, holds_up_frozen, is_left_half_filled, may_boot
 from agent.life import stale, stalls, why_not, wrong_at
 from agent.ocf import DEGRADED, GENERIC, INSTALLED, NOT_RUNNING, PROMOTED, SUCCESS, UNIMPLEMENTED, Failure, meta, run, warn
@@ -15,6 +15,8 @@ TAKE_SECONDS = 5  # for a demotion before a stop
 AS_STANDBY = ("Unpromoted", "Slave")  # what Pacemaker calls an instance, to whose monitor it says so
 TWO_LIVE_SECONDS = 5  # longer than from one monitor to the next
 LOST_SECONDS = 10  # nobody has the guest for so long: it isn't just on its way from one host to the other
+
+START_IT = "start Pacemaker there; or, once that host is surely off, 'remus-host ctl promote' here"
 
 # What can't be safe otherwise, as Pacemaker's environment says it of the clone.
 CLONE = {"clone_max": "2", "notify": "true", "promoted_max": "1", "clone_node_max": "1"}
@@ -28,6 +30,7 @@ class Pair:
         self.gone = self.daemon.started + ".gone"  # the standby that the last monitor saw gone
         self.lost = self.daemon.started + ".lost"  # is there, and as old, while nobody has the guest
         self.two_live = self.daemon.started + ".two-live"  # is there, and as old, while this host is live by hand, and another one too
+        self.other_lives = self.daemon.started + ".other-lives"  # is there since a promote was refused for that
         self.wrong = self.daemon.started + ".wrong"  # is there while this node's attribute says that something is wrong
 
     # What the daemon says.
@@ -58,8 +61,18 @@ class Pair:
             return SCORE_LIVE
         life = self.cluster.life()
         if status["role"] == "empty":
-            return SCORE_FIRST if may_boot(status, life, self.booting(status)) else None
-        return SCORE_FULL if why_not(status, life) is None else None
+            return SCORE_FIRST if may_boot(status, life, self.booting(status)) and not self.is_beside_live(status) else None
+        return SCORE_FULL if why_not(status, life) is None and not self.is_beside_live(status) else None
+
+    def is_beside_live(self, status: dict) -> bool:
+        """Whether a promote was refused here, since the other host is live, and Pacemaker still doesn't know of that: it was stopped there
+        while the pair wasn't managed. It wouldn't fence that host, so silence doesn't show that it is off."""
+        if not os.path.exists(self.other_lives):
+            return False
+        if status["peer"].get("role") == "live" and self.cluster.best_score_elsewhere() < SCORE_WAITS:
+            return True
+        forget(self.other_lives)
+        return False
 
     def booting(self, status: dict) -> str:
         """How the property names this host while it boots the guest: by its instance too, since another one can't know whether it did."""
@@ -98,7 +111,7 @@ class Pair:
         finally:
             publishing.join()
         self.say_wrong([])
-        for note in (self.lost, self.two_live):
+        for note in (self.lost, self.two_live, self.other_lives):
             forget(note)
         return SUCCESS
 
@@ -160,7 +173,8 @@ class Pair:
         except Failure as failure:
             self.say_wrong([failure.reason, *wrong_at(status)])
             return SUCCESS
-        self.say_wrong([*([lost] if lost else []), *wrong_at(status)])
+        beside = [f"the other host is live, and Pacemaker doesn't know of it: {START_IT}"] if self.is_beside_live(status) else []
+        self.say_wrong([*([lost] if lost else []), *beside, *wrong_at(status)])
         if lost:
             raise Failure(DEGRADED, lost)
         return SUCCESS
@@ -266,6 +280,7 @@ class Pair:
 
     def monitor_live(self, status: dict) -> int:
         self.refuse_stale(status)
+        forget(self.other_lives)
         if self.goes_alone(status):
             status = self.running()
         self.cluster.publish(SCORE_WAITS if self.has_stalled(status) else SCORE_LIVE)
@@ -335,7 +350,9 @@ class Pair:
     def promote(self) -> int:
         try:
             self.go_live()
-        except Failure:
+        except Failure as failure:
+            if isinstance(failure, Declined) and failure.name == "PeerIsLive":
+                self.note(self.other_lives)
             self.cluster.publish(None)
             raise
         self.cluster.publish(SCORE_LIVE)
@@ -373,7 +390,7 @@ class Pair:
         if not answer.get("ok"):
             self.cluster.delete_life()  # nothing was booted
             code = GENERIC if answer.get("refused") in ("NotEmpty", "Busy", "PeerIsLive") else INSTALLED
-            raise Failure(code, f"remus-host refused to boot the guest: {answer.get('why', answer)}")
+            raise Declined("boot the guest", answer, code)
 
     def demote(self) -> int:
         self.cluster.publish(None)

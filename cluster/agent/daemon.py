@@ -55,6 +55,14 @@ class Silent(Failure):
     """The daemon is there, and says nothing."""
 
 
+class Declined(Failure):
+    """The daemon refused what it was told, and `name` is how it calls that."""
+
+    def __init__(self, verb: str, answer: dict, code: int = GENERIC) -> None:
+        self.name = answer.get("refused")
+        super().__init__(code, f"remus-host refused to {verb}: {answer.get('why', answer)}")
+
+
 class Daemon:
     def __init__(self, resource: str) -> None:
         self.config = parameter("config", "/etc/remus/host.toml")
@@ -176,7 +184,7 @@ class Daemon:
             if answer.get("ok"):
                 return answer
             if answer.get("refused") != "Busy" or time.monotonic() > end:
-                raise Failure(GENERIC, f"remus-host refused to {verb}: {answer.get('why', answer)}")
+                raise Declined(verb, answer)
             time.sleep(0.05)
 
     # The process.
