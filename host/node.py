@@ -21,7 +21,9 @@ MADE, OUTBOX = 1, 3  # and in the answer to `step`: the guest's step count, and 
 PIECE = 1 << 16  # bytes of a text that are asked for at a time
 LOOK = "text 0 0 0"  # asks for no byte of the full checkpoint's text, so that the node looks at the guest's next pages for it
 LOOKED_AT = 1024  # pages, with each such line
-SHIELDED = (signal.SIGINT, signal.SIGTERM, signal.SIGHUP, signal.SIGUSR1, signal.SIGUSR2)  # what tells a daemon to end, or something
+FAULTS = {signal.SIGILL, signal.SIGBUS, signal.SIGFPE, signal.SIGSEGV}  # what the kernel sends a process for a mistake of its own
+# What else may be sent, and tells a daemon to end, or asks for something.
+SHIELDED = signal.valid_signals() - FAULTS - {signal.SIGKILL, signal.SIGSTOP, signal.SIGCONT, signal.SIGCHLD, signal.SIGPIPE}
 
 
 class NodeEnded(Exception):
@@ -56,8 +58,8 @@ class Answer:
 
 
 def started(command: list[str]) -> subprocess.Popen:
-    """A node's process. The signals that tell a daemon to end, which a terminal or an init system may send to all of its group, don't
-    reach it: the daemon ends it, when it is needed no more."""
+    """A node's process. The signals that a terminal or an init system may send to all of the daemon's group don't reach it: the daemon ends
+    it, when it is needed no more."""
     stack.raise_limit()
     kept = signal.pthread_sigmask(signal.SIG_BLOCK, SHIELDED)
     try:

@@ -1,15 +1,20 @@
-"""Signals. SIGTERM and Ctrl-C end the daemon; one whose host is live and paired hands its guest to the standby first. SIGHUP, SIGUSR1 and
-SIGUSR2 ask for nothing here."""
+"""Signals. SIGTERM, Ctrl-C and Ctrl-\\ end the daemon; one whose host is live and paired hands its guest to the standby first. Each other
+one that can be caught ends and stops nothing."""
 import signal
 import socket
 import time
 from types import FrameType
 
 from host.live import PAIRED
+from host.node import FAULTS, SHIELDED
 from host.tasks import Drain
 
 ONE = 0.3  # seconds: what comes within them is one signal, which timeout(1) and others send to a process and to its group
-ENDS, IDLE = (signal.SIGINT, signal.SIGTERM), (signal.SIGHUP, signal.SIGUSR1, signal.SIGUSR2)
+ENDS = {signal.SIGINT, signal.SIGTERM, signal.SIGQUIT}
+RELOADS = {signal.SIGHUP, signal.SIGUSR1, signal.SIGUSR2}
+HARMLESS = {signal.SIGURG, signal.SIGWINCH, signal.SIGXFSZ}  # of which nobody is told
+TERMINAL = {signal.SIGTTIN, signal.SIGTTOU}  # as what is in the background gets them: a log goes to the terminal all the same
+IDLE = SHIELDED - ENDS - HARMLESS - TERMINAL
 
 
 class AtOnce(BaseException):
@@ -31,6 +36,9 @@ class Signals:
             signal.signal(number, self.end)
         for number in IDLE:
             signal.signal(number, lambda *_: None)
+        for number in TERMINAL:
+            signal.signal(number, signal.SIG_IGN)
+        signal.pthread_sigmask(signal.SIG_BLOCK, FAULTS)  # those that somebody else sends: for a fault the kernel ends a process all the same
 
     def end(self, number: int, frame: FrameType | None) -> None:
         now = time.monotonic()
@@ -43,12 +51,14 @@ class Signals:
     def hear(self, now: float) -> None:
         """What came since the last wait."""
         for number in dict.fromkeys(self.came.recv(4096)):
-            name = signal.Signals(number).name
+            name = name_of(number)
             if number in ENDS:
                 self.hand_on(name, now)
-            else:
+            elif number in RELOADS:
                 self.host.log.warning(f"{name}: there is nothing to reload, and this host goes on as it was: key and certificates are read "
                                       "for each new link, and another configuration takes a new start of the daemon")
+            else:
+                self.host.log.warning(f"{name}: nothing is asked by that here, and this host goes on as it was")
 
     def hand_on(self, name: str, now: float) -> None:
         host = self.host
@@ -76,3 +86,10 @@ class Signals:
         signal.set_wakeup_fd(-1)
         for number in (*ENDS, *IDLE):
             signal.signal(number, signal.SIG_IGN)
+
+
+def name_of(number: int) -> str:
+    try:
+        return signal.Signals(number).name
+    except ValueError:
+        return f"signal {number}"  # most of those without a meaning
