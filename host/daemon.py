@@ -303,9 +303,9 @@ class Daemon:
         guarded(self.log, self.task.name, lambda: self.task.turn(now), self.task.fail)
 
     def is_quiet(self):
-        """Whether nothing is under way but epochs, which go over the link."""
+        """Whether nothing is under way but epochs, which go over the link, and more often than pings would."""
         link = self.link
-        return (link.is_up and not link.connection.waits_to_write and not link.is_meeting and self.task is None and
+        return (link.is_up and self.live.span <= link.ping_every and not link.connection.waits_to_write and not link.is_meeting and self.task is None and
                 self.network.wrong is None and not any(one.clients or one.late for one in self.served))
 
     def quiet_epochs(self, reading):

@@ -36,6 +36,7 @@ class Link:
         self.strangers, self.callers, self.call, self.tcp, self.tcp_begun = [], [], None, None, 0.0
         self.connection, self.session = None, None  # the attached connection, and its session's name
         self.dial_at, self.heard_at = 0.0, None
+        self.ping_every = settings.link_ms / 4  # seconds without another message
         self.connects_in = min(max(settings.link_ms / 2, AGAIN), PATIENCE)  # seconds, for a connection to the peer to come about
         self.meeting = self.attached = self.lost = None
         self.now = time.monotonic
@@ -106,7 +107,7 @@ class Link:
             if self.connection.has_more():
                 return now
             quiet = self.settings.link_ms
-            times += self.connection.heard_at + quiet, self.connection.said_at + quiet / 4
+            times += self.connection.heard_at + quiet, self.connection.said_at + self.ping_every
         elif dials and self.settings.peer and self.call is None:
             times.append(self.tcp_begun + self.connects_in if self.tcp else self.dial_at)
         return min(times, default=None)
@@ -313,7 +314,7 @@ class Link:
                 return
             if now - connection.heard_at > self.settings.link_ms:
                 raise Closed(f"nothing came for {self.settings.link_ms * 1000:.0f} ms")
-            if now - connection.said_at > self.settings.link_ms / 4:
+            if now - connection.said_at > self.ping_every:
                 self.send(messages.message(messages.PING, self.session), now)
         except (Closed, messages.Malformed) as error:
             self.lose(str(error))
