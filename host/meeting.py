@@ -13,6 +13,8 @@ from host.messages import GO_LIVE, HELLO, NO, NO_SESSION, OFFER, OVER, READY, RE
 from host.node import Refused
 from host.troubles import Trouble
 
+SOON_LOST = 10.0  # seconds: a standby that was lost sooner, and again, isn't filled at once
+FREE_LOSSES = 2  # in a row
 SAYS_AGAIN = 1.0  # seconds, within which a host that isn't attached says again what it is: it dials, and is dialled, a few times a second
 LEAST_SILENCE = 0.2  # seconds
 KEEP_ONE = "Cut one from the guest's network, keep the one that you trust, and restart the daemon of the other"
@@ -30,6 +32,7 @@ class Meeting:
         self.says_every, self.is_by_call = 0.0, False  # how often it says so, if that isn't all the time; whether this host had called it
         self.said_role = None  # what this host said last that it is, as it called the peer
         self.conflict = Trouble(host.log)
+        self.attached_at, self.losses = 0.0, Backoff(FREE_LOSSES)  # of this live host's standbys
 
     def hello(self):
         host = self.host
@@ -94,6 +97,8 @@ class Meeting:
         why = self.why_no_offer()
         if why is None and self.protecting.left(now):
             why = "the node refused to protect the guest, and is asked again later"
+        if why is None and self.losses.left(now):
+            why = f"its standby was lost within {SOON_LOST:.0f} s {self.losses.count} times in a row, and is filled again later, each time"
         if why is not None:
             return self.refuse(connection, why)
         return self.offer(connection, hello, now)
@@ -109,8 +114,25 @@ class Meeting:
         is_anew = live.standby is not None and hello["name"] == live.standby[0] and hello["instance"] != live.standby[1]
         if is_anew and live.mode == FILLING and not live.is_fetched and self.host.task is None:
             self.log.info(f"{hello['name']} has begun anew, before all of the full checkpoint was sent: it is filled anew")
+            self.is_lost(now)
             self.link.close()
             live.alone(now)
+
+    def is_lost(self, now: float) -> None:
+        """The live host's standby is gone. At each filling the guest stands for a moment: one that dies again and again is filled each time
+        later."""
+        if self.link.heard_at - self.attached_at >= SOON_LOST:
+            self.losses.worked()
+        elif seconds := self.losses.failed(now):
+            self.log.warning(f"{self.host.live.standby[0]} was lost within {SOON_LOST:.0f} s for the {self.losses.count}th time in a row: it "
+                             f"is filled again in {seconds:.0f} s at the earliest")
+
+    def goes_alone(self, now: float) -> None:
+        """The live host is told that its standby has stopped for good. One that is reached still was given up, and didn't fail."""
+        if self.host.live.is_linked:
+            self.losses.worked()
+        elif self.host.live.standby is not None:
+            self.is_lost(now)
 
     def why_no_offer(self):
         """Why this host can't take a standby, if so."""
@@ -283,6 +305,7 @@ class Meeting:
         self.protecting.worked()
         host.counts.attachments += 1
         self.link.attach(connection, session, now)
+        self.attached_at = now
         self.log.info(f"{standby[0]} is the new standby: its full checkpoint of generation {live.generation} has at most "
                       f"{live.pending[0].total} bytes")
         self.compare(now)

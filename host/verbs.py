@@ -163,9 +163,11 @@ class Verbs:
         has = host.live.standby
         if standby is not None and has is not None and has[1] != standby:
             return refusal("OtherStandby", f"the standby here is {has[1]}")
+        now = time.monotonic()
+        host.meeting.goes_alone(now)
         host.link.close()
         host.kept.outlives(host.live.generation)
-        host.live.alone(time.monotonic())
+        host.live.alone(now)
         host.log.info(f"alone in generation {host.generation}, as it was told")
         return self.did("this host goes on alone")
 
