@@ -154,6 +154,10 @@ class Connection:
             raise Closed(ended)
         return found
 
+    def rest(self):
+        """The messages that came behind others, now that those are heard. Raises Malformed."""
+        return messages.taken(self.came, self.most)
+
     def has_more(self):
         """Whether TLS keeps bytes that no poll would tell of."""
         return self.is_tls and self.is_open and self.socket.pending() > 0

@@ -2,6 +2,7 @@
 import secrets
 import select
 import time
+from collections.abc import Callable
 
 from host import messages, network
 from host.boot import boot_of
@@ -10,7 +11,7 @@ from host.guarded import guarded
 from host.link import Link
 from host.live import Live
 from host.log.disk import Disk
-from host.log.kept import Kept
+from host.log.kept import Kept, StandbyLog
 from host.meeting import Meeting
 from host.metrics import Counts
 from host.node import Node, Refused
@@ -61,7 +62,8 @@ class Daemon:
         self.node, found = recovered
         head = found.head
         self.life, self.shape, self.instance = head.life, (head.pages, head.sectors), head.instance
-        self.standby = Standby(self, bytes.fromhex(head.session), self.life, found.generation, self.shape, self.kept.resumed(found))
+        self.standby = Standby(self, bytes.fromhex(head.session), self.life, found.generation, self.shape, self.kept.resumed(found),
+                               found.is_joined)
 
     # What the host is.
 
@@ -90,6 +92,13 @@ class Daemon:
         holder = self.live or self.standby
         return holder.session if holder else None
 
+    @property
+    def branch(self) -> str | None:
+        """By which a live host knows what is held here, in hexadecimal."""
+        if self.standby is not None:
+            return self.standby.branch
+        return self.session.hex() if self.session else None
+
     # Changes of role.
 
     def give_up(self):
@@ -115,9 +124,10 @@ class Daemon:
         self.state.keep(offer["life"], offer["generation"], "held")
         self.node.ask(f"standby {offer['pages']} {offer['sectors']} {offer['generation']}")
         shape, life, generation = (offer["pages"], offer["sectors"]), offer["life"], offer["generation"]
-        logged = self.kept.prepared(session, generation, life, shape)
+        is_joined = not offer.get("joins", False)
+        logged = self.kept.prepared(session, generation, life, shape, is_joined)
         self.shape, self.life = shape, life
-        self.standby = Standby(self, session, self.life, generation, self.shape, logged)
+        self.standby = Standby(self, session, self.life, generation, self.shape, logged, is_joined)
         self.counts.attachments += 1
         self.log.info(f"this host is ready as a standby of {offer['name']}, for generation {offer['generation']}")
 
@@ -136,19 +146,23 @@ class Daemon:
 
     def go_live(self, now: float, word: bytes | None = None) -> None:
         """A standby with a full checkpoint goes on as the guest; who told it so gets this word. Raises Refused."""
-        self.standby.catch_up()
+        self.standby.catch_up_all()
         answer = self.node.ask("golive")
-        self.standby = None
+        standby, self.standby = self.standby, None
         if word is not None:
             self.link.send(word, now)
         self.link.close()
-        self.start(Live(self, answer.number(1), answer.number(3), now))
+        self.start(Live(self, answer.number(1), answer.number(3), now), standby.logged)
         self.counts.failovers += 1
         self.log.info(f"live in generation {self.generation}, from step {self.live.steps}")
 
-    def start(self, live):
-        """The guest runs from now on, and bridges learn where it is."""
-        self.kept.goes_live(live.generation)
+    def start(self, live: Live, logged: StandbyLog | None = None) -> None:
+        """The guest runs from now on, and bridges learn where it is. `logged` is the log of the standby that this host was."""
+        try:
+            self.kept.goes_live(live, logged)
+        except Refused:
+            self.become_empty()
+            raise
         self.meeting.goes_live()
         self.live = live
         self.network.up()
@@ -172,11 +186,13 @@ class Daemon:
     # What the log tells.
 
     def log_told(self, now: float) -> None:
-        """Something more of the log is on the disk; or it failed, and this host is no standby any more, which acknowledges nothing."""
+        """Something more of the log is on the disk; or it failed: a standby is none any more then, and acknowledges nothing."""
         self.kept.keeper.heard()
-        if self.kept.keeper.failed is not None:
+        if self.live is not None:
+            self.kept.look_at_own(self.live, now)
+        elif self.kept.keeper.failed is not None:
             self.kept.has_failed(now)
-        elif self.standby is not None and self.standby.logged is not None:
+        elif self.standby is not None:
             self.standby.synced(now)
             self.kept.look(now)
 
@@ -189,15 +205,13 @@ class Daemon:
         elif self.is_handing_over and kind in (messages.LIVE, messages.STAYS):
             self.heard_of_hand_over(kind, body, now)
         elif self.standby and kind == messages.TEXT:
-            try:
-                self.standby.text(body, now)
-            except Broken as broken:
-                self.log.seldom("broken", "error", str(broken))
-                raise messages.Malformed("what came can't be taken") from None
+            self.taken(lambda: self.standby.text(body, now))
         elif self.live and kind == messages.LONG:
             self.live.turn_wanted = True
         elif self.standby and kind == messages.TURN:
-            self.turned(*messages.turned(body), now)
+            self.taken(lambda: self.standby.turned(*messages.turned(body), now))
+        elif self.standby and kind == messages.JOIN:
+            self.taken(lambda: self.standby.told_joined(*messages.numbers(body), now))
         elif self.standby and kind == messages.GO_LIVE:
             self.told_to_go_live(*messages.numbers(body), now)
         elif self.standby and not self.standby.is_full and kind == messages.NO:
@@ -205,12 +219,13 @@ class Daemon:
         else:
             raise messages.Malformed(f"a message of kind {kind} to a host that is {self.role}")
 
-    def turned(self, generation: int, number: int, later: int, now: float) -> None:
+    def taken(self, part: Callable[[], None]) -> None:
+        """What the standby is sent. Raises Malformed."""
         try:
-            self.standby.turned(generation, number, later, now)
+            part()
         except Broken as broken:
             self.log.seldom("broken", "error", str(broken))
-            raise messages.Malformed("a turn that can't be taken") from None
+            raise messages.Malformed("what came can't be taken") from None
 
     def told_to_go_live(self, generation: int, number: int, now: float) -> None:
         """The live host has drained and stopped, and says so; it gives the guest up once it hears that this one is live."""
@@ -272,7 +287,8 @@ class Daemon:
         frames = self.network.watched()
         reading, writing = [self.signals.came, *frames], []
         self.link.watched(reading, writing, is_patient)
-        if self.live is None:
+        hears_log = self.live is None or self.live.own is not None and not is_patient
+        if hears_log:
             reading.append(self.kept.keeper)
         for one in self.served:
             one.watched(reading, writing)
@@ -282,7 +298,7 @@ class Daemon:
         now = time.monotonic()
         if self.signals.came in readable:
             self.signals.hear(now)
-        if self.live is None and self.kept.keeper in readable:
+        if hears_log and self.kept.keeper in readable:
             self.log_told(now)
         if is_patient and self.link.is_up:
             readable.append(self.link.connection)

@@ -256,11 +256,13 @@ class Link:
             found = connection.messages(now)
             if connection.is_proven:
                 self.knows(connection)
-            for kind, session, body in found:
-                if self.is_unattached(connection):
-                    self.meeting.hear(connection, kind, session, body, now)
-                else:
-                    self.take(connection, kind, session, body, now)
+            while found:
+                for kind, session, body in found:
+                    if self.is_unattached(connection):
+                        self.meeting.hear(connection, kind, session, body, now)
+                    else:
+                        self.take(connection, kind, session, body, now)
+                found = connection.rest()
         except (Closed, messages.Malformed) as error:
             if self.is_unattached(connection):
                 self.drop(connection, str(error))

@@ -4,14 +4,15 @@ from collections import OrderedDict
 
 from host import messages, turning
 from host.dead import Watch, told
+from host.filling import Filling
+from host.log.own import OwnLog
 from host.looks import Looks
+from host.modes import ALONE, FILLING, MOST_PENDING, PAIRED
 from host.node import LOOK, MADE, OUTBOX, PIECE, STEPS, arrive, looks, text_from
 from host.pacing import TRY_EVERY, Pacer
 from host.text import MOST_PAGE, pages_and_frames
 from host.troubles import Trouble
 
-ALONE, FILLING, PAIRED = "alone", "filling", "paired"
-MOST_PENDING = 4  # checkpoints
 QUICK = 100_000  # steps that take the node a fraction of a millisecond
 LATE = 0.1  # a guest that is so many seconds late isn't hurried any more
 QUIET = 0.1  # after so many seconds without a frame a guest that is alone runs in slices of SLOW, and one that is paired in epochs
@@ -25,12 +26,13 @@ STANDS = 3.0  # seconds without an acknowledgement, after which it is said that 
 
 
 class Pending:
-    """A checkpoint that isn't acknowledged: the bytes of its text, or, unless `is_exact`, so many at the most; when it was cut; and whether
-    it is known to hold no frames."""
-    __slots__ = ("total", "is_exact", "cut_at", "is_silent")
+    """A checkpoint that isn't acknowledged: the bytes of its text, or, unless `is_exact`, so many at the most; when it was cut; whether it is
+    known to hold no frames; and, where its text goes into this host's own log, what is fetched of that, piece by piece."""
+    __slots__ = ("total", "is_exact", "cut_at", "is_silent", "parts", "fetched")
 
-    def __init__(self, total, is_exact, cut_at):
+    def __init__(self, total: int, is_exact: bool, cut_at: float) -> None:
         self.total, self.is_exact, self.cut_at, self.is_silent = total, is_exact, cut_at, False
+        self.parts, self.fetched = [], 0
 
 
 class Live:
@@ -58,7 +60,11 @@ class Live:
         self.is_full = False  # the outbox: the guest goes on after the next cut
         self.is_stopped = self.is_frozen = False  # for a drain, or since the host is frozen
         self.held = 0
-        self.turning, self.turn_wanted = None, False  # into a later generation, for the standby's log
+        self.turning, self.turn_wanted = None, False  # into a later generation, for a log
+        self.own: OwnLog | None = None  # by which frames are let out, beside the standby's acknowledgements
+        self.fetching = 0  # the checkpoint whose text is being fetched for it
+        self.filling: Filling | None = None  # of the standby, from it
+        self.heard: tuple[int, int] | None = None  # the last generation and number that the standby has acknowledged
         self.late, self.acked_at, self.waited_since = 0.0, now, None
         self.longest = 0.0  # seconds from steps of the guest to the next, though it didn't wait
         self.watch, self.pacer, self.looks, self.stand = Watch(), Pacer(self), Looks(host, self, now), Trouble(self.log)
@@ -91,8 +97,22 @@ class Live:
 
     @property
     def waits(self):
-        """Whether the guest waits, since the link is gone and no more checkpoints may be pending."""
-        return len(self.pending) >= MOST_PENDING and not self.is_linked
+        """Whether the guest waits, since no more checkpoints may be pending, and the link is gone, or this host's own log failed."""
+        if len(self.pending) < MOST_PENDING:
+            return False
+        return self.needs_standby and not self.is_linked or self.own is not None and self.own.failed is not None
+
+    @property
+    def needs_standby(self) -> bool:
+        """Whether nothing is let out that the standby hasn't acknowledged."""
+        if self.own is None:
+            return self.mode != ALONE
+        return self.filling.is_joined if self.filling is not None else self.mode == PAIRED
+
+    @property
+    def is_steady(self) -> bool:
+        """Whether the guest is protected, so that epochs end, by its standby or by this host's own log."""
+        return self.mode == PAIRED or self.own is not None and self.is_fetched
 
     def why_stands(self, now: float) -> str | None:
         """For whom the guest, or all that it sends, waits for a while, and what lets it go on; None where it doesn't."""
@@ -115,7 +135,7 @@ class Live:
     @property
     def is_patient(self):
         """Whether an acknowledgement can wait for the epoch's end, since it would let nothing out."""
-        if self.mode != PAIRED or self.is_stopped or len(self.pending) >= MOST_PENDING:
+        if not self.is_steady or self.is_stopped or self.filling is not None or len(self.pending) >= MOST_PENDING:
             return False
         for one in self.pending.values():
             if not one.is_silent:
@@ -125,19 +145,19 @@ class Live:
     @property
     def span(self):
         """How long the running epoch is to be."""
-        return LONG * self.epoch if self.mode == PAIRED and self.epoch_begun - self.moved_at >= QUIET else self.epoch
+        return LONG * self.epoch if self.is_steady and self.epoch_begun - self.moved_at >= QUIET else self.epoch
 
     def may_cut(self):
         """While the full checkpoint's text is fetched, the running epoch goes on as long as the outbox has room."""
-        if self.mode == ALONE or len(self.pending) >= MOST_PENDING:
+        if self.mode == ALONE and self.own is None or len(self.pending) >= MOST_PENDING:
             return False
         if self.turning is not None:
             return self.is_full
-        return self.mode == PAIRED or self.is_fetched or self.is_full
+        return self.is_steady or self.is_fetched or self.is_full
 
     def due(self, now):
         """When there is something to do, if nothing comes before; None where there is nothing."""
-        if self.has_to_send():
+        if self.has_to_send() or self.has_to_fetch():
             return now
         if self.is_stopped or self.waits:
             return None
@@ -155,7 +175,7 @@ class Live:
 
     def is_asked(self, now: float) -> bool:
         """Whether a reply may be near, which ends the epoch."""
-        return self.mode == PAIRED and now - self.moved_at < ASKED
+        return self.is_steady and now - self.moved_at < ASKED
 
     def makes_all_at_end(self, now: float) -> bool:
         """Whether the guest makes all its steps of the running epoch at its end."""
@@ -163,14 +183,16 @@ class Live:
 
     def batch(self, now):
         """How many steps are made at a time: few where they may let frames out."""
-        if self.mode != ALONE:
+        if self.mode != ALONE or self.own is not None:
             return self.most_at_once
         return self.slice if now - self.moved_at < QUIET else min(max(self.slice, int(SLOW * self.rate)), self.most_at_once)
 
     def turn(self, now):
+        if self.own is not None:
+            self.own_told(now)
         if not self.is_stopped:
             self.run(now)
-            if self.mode == ALONE and now >= self.looks.at:
+            if self.mode == ALONE and self.own is None and now >= self.looks.at:
                 self.looks.turn(now)
         if self.pending and now - self.acked_at >= STANDS or self.stand.why is not None:
             self.say_whether_stands(now)
@@ -225,9 +247,11 @@ class Live:
         """What `turn` does of a patient host, with less ado where an epoch ends and its checkpoint is the next that is sent."""
         number, steps = self.cut + 1, self.steps_due(now)
         is_other = now - self.epoch_begun < self.span or steps <= 0 or self.is_full or self.waited_since is not None
-        if is_other or self.sending != number or not self.link.has_room():
+        if is_other or self.sending != number or not self.link.has_room() or self.own is not None and self.fetching != number:
             self.turn(now)
             return
+        if self.own is not None:
+            self.own_told(now)
         self.longest, self.ran_at, self.has_arrived = max(self.longest, now - self.ran_at), now, False
         step, cut, text = self.tell(b"step %d" % steps, b"cut", b"text %d 0 %d" % (number, PIECE))
         self.stepped(step, now)
@@ -288,13 +312,16 @@ class Live:
     def is_said(self, now: float) -> bool:
         """Whether the running epoch ends early, since the guest has sent something, and no more by its last steps, or it goes on sending. One
         checkpoint more may be pending then, so that the guest goes on if none is acknowledged."""
-        return (self.mode == PAIRED and len(self.pending) < MOST_PENDING - 1 and now - self.epoch_begun >= EARLY and
+        return (self.is_steady and len(self.pending) < MOST_PENDING - 1 and now - self.epoch_begun >= EARLY and
                 (not self.is_saying or now - self.said_at >= EARLY))
 
     def cut_lines(self):
-        """A cut, and the first bytes of its text where they are the next that are sent."""
+        """A cut, and the first bytes of its text where they are the next that are sent, or written."""
         number = self.cut + 1
-        is_next = self.is_linked and self.sending == number and self.link.has_room()
+        if self.own is not None:
+            is_next = self.fetching == number
+        else:
+            is_next = self.is_linked and self.sending == number and self.link.has_room()
         return [b"cut"] + [b"text %d 0 %d" % (number, PIECE)] * is_next
 
     def was_cut(self, now, cut, text=None):
@@ -315,7 +342,7 @@ class Live:
         # The next one ends in its turn, unless this machine is much too late.
         self.epoch_begun = max(self.epoch_begun + min(length, self.span), now - self.epoch)
         if text is not None and not text.is_refused:
-            self.send_text(unhexlify(text.words[1]), now)
+            self.came(unhexlify(text.words[1]), now)
         if self.turn_wanted and turning.begin(self, now):
             self.turn_wanted = False
 
@@ -327,20 +354,62 @@ class Live:
         no longer than some mebibytes of a text."""
         return self.sent / self.most if self.sending == 0 else 1.0
 
-    def has_to_send(self):
-        return self.cut is not None and self.sending <= self.cut and self.is_linked and self.link.has_room()
+    def has_to_send(self) -> bool:
+        if not self.is_linked or not self.link.has_room():
+            return False
+        if self.filling is not None and self.filling.feed is not None:
+            return self.filling.feed.has_more()
+        if self.own is None:
+            return self.cut is not None and self.sending <= self.cut
+        one = self.in_memory(self.sending)
+        return one is not None and self.sent < one.fetched
 
-    def send(self, now):
-        """Sends what there is to send, for a quarter of an epoch at the most."""
+    def has_to_fetch(self) -> bool:
+        """For this host's own log."""
+        own = self.own
+        return own is not None and own.failed is None and self.cut is not None and self.fetching <= self.cut and (
+            self.fetching > 0 or own.has_room)
+
+    def send(self, now: float) -> None:
+        """Fetches and sends what there is to, for a quarter of an epoch at the most."""
         end = now + self.epoch / 4
-        while self.has_to_send():
-            if data := self.fetched(self.sending, self.sent, now):
-                self.send_text(data, now)
+        while True:
+            if self.has_to_send():
+                self.send_more(now)
+            elif self.has_to_fetch():
+                if data := self.fetched(self.fetching, self.pending[self.fetching].fetched, now):
+                    self.keep(data, now)
+            else:
+                break
             now = self.link.now()
             if now >= end:
                 break
 
-    def fetched(self, number, begin, now):
+    def send_more(self, now: float) -> None:
+        if self.filling is not None and self.filling.feed is not None:
+            self.filling.send(now)
+        elif self.own is not None:
+            self.send_text(self.in_memory(self.sending).parts[self.sent // PIECE], now)
+        elif data := self.fetched(self.sending, self.sent, now):
+            self.saw(self.sending, self.sent, data, now)
+            self.send_text(data, now)
+
+    def send_all(self, now: float) -> None:
+        """All that is cut goes to the standby, whether the link has room or not."""
+        while self.is_linked and (one := self.in_memory(self.sending)) is not None:
+            self.send_text(one.parts[self.sent // PIECE], now)
+
+    def fetch_all(self, now: float) -> None:
+        while self.fetching <= self.cut:
+            if data := self.fetched(self.fetching, self.pending[self.fetching].fetched, now):
+                self.keep(data, now)
+
+    def in_memory(self, number: int) -> Pending | None:
+        """A checkpoint whose text is kept."""
+        one = self.pending.get(number)
+        return one if one is not None or self.filling is None else self.filling.tail.get(number)
+
+    def fetched(self, number: int, begin: int, now: float) -> bytes:
         """The next bytes of a pending checkpoint's text. Of the full one there are none yet until the node has looked at all the guest's
         memory, some of it each time; and with its last ones it is known how long it is."""
         if number == 0 and self.to_look:
@@ -353,47 +422,107 @@ class Live:
             self.counts.checkpoint_bytes += one.total
         return data
 
-    def send_text(self, data, now):
-        number, begin = self.sending, self.sent
+    def came(self, data: bytes, now: float) -> None:
+        """The first bytes of the text of a checkpoint that was just cut."""
+        if self.own is not None:
+            self.keep(data, now)
+        else:
+            self.saw(self.sending, self.sent, data, now)
+            self.send_text(data, now)
+
+    def saw(self, number: int, begin: int, data: bytes, now: float) -> None:
+        """What a text's first bytes tell."""
+        if begin > 0:
+            return
         one = self.pending[number]
-        if begin == 0:
-            if self.watch.see(data, number):
-                self.log.error(told(self.watch.found))
-            pages, frames = pages_and_frames(data, one.total)
-            self.counts.checkpoint_pages += pages
-            one.is_silent = frames == 0
-            if not one.is_exact:
-                self.most = one.total - MOST_PAGE * (self.pages - pages)
-            if not one.is_silent:
-                self.moved_at = now
+        if self.watch.see(data, number):
+            self.log.error(told(self.watch.found))
+        pages, frames = pages_and_frames(data, one.total)
+        self.counts.checkpoint_pages += pages
+        one.is_silent = frames == 0
+        if not one.is_exact:
+            self.most = one.total - MOST_PAGE * (self.pages - pages)
+        if not one.is_silent:
+            self.moved_at = now
+
+    def keep(self, data: bytes, now: float) -> None:
+        """The next bytes of the text that goes into this host's own log."""
+        number, one = self.fetching, self.pending[self.fetching]
+        self.saw(number, one.fetched, data, now)
+        if number == 0:
+            self.own.piece(data, one.fetched == 0)
+        else:
+            one.parts.append(data)
+        one.fetched += len(data)
+        if one.is_exact and one.fetched >= one.total:
+            self.fetching, self.is_fetched = number + 1, True
+            if number == 0:
+                self.own.begin()
+            else:
+                self.own.text(number, one.parts[0] if len(one.parts) == 1 else b"".join(one.parts), not one.is_silent)
+
+    def send_text(self, data: bytes, now: float) -> None:
+        number, begin = self.sending, self.sent
+        one = self.in_memory(number)
         self.sent, self.pacer.sent_at = self.sent + len(data), now
         if self.sent >= one.total:
             self.sending, self.sent, self.is_fetched = number + 1, 0, True
         self.link.send(messages.text(self.session, self.generation, number, begin, one.total, data), now)
 
-    def acknowledge(self, generation, number, now):
+    # What is acknowledged.
+
+    def acknowledge(self, generation: int, number: int, now: float) -> None:
         """The standby has committed all up to this number."""
         if self.turning is not None and generation == self.turning.before:
             self.turning.heard(number)
-            return
-        if generation != self.generation or number not in self.pending:
+        self.heard = generation, number
+        self.release(now)
+        if self.filling is not None:
+            self.filling.go_on(now)
+
+    def own_told(self, now: float) -> None:
+        """More may be in this host's own log."""
+        own = self.own
+        self.release(now)
+        if self.filling is not None:
+            self.filling.go_on(now)
+        own.look(now)
+        if own.is_long and own.basing is None and self.turning is None and self.filling is None:
+            self.turn_wanted = True
+
+    def reached(self) -> int | None:
+        """Up to where this generation is in each log, or image, that may go on."""
+        heard = self.heard[1] if self.heard is not None and self.heard[0] == self.generation else None
+        if self.own is None or self.is_stopped and self.own.failed is not None and self.needs_standby:
+            return heard
+        own = self.own.number_in(self.generation)
+        if not self.needs_standby or own is None:
+            return own
+        return None if heard is None else min(own, heard)
+
+    def release(self, now: float) -> None:
+        """Lets out what may be."""
+        number = self.reached()
+        if number is None or number not in self.pending:
             return  # it was heard before, or is of another time
         is_silent = True
         while number in self.pending:
-            one = self.pending.popitem(last=False)[1]
+            which, one = self.pending.popitem(last=False)
             is_silent &= one.is_silent
+            if self.filling is not None:
+                self.filling.left(which, one)
         if not one.is_silent:
             self.counts.acknowledged(now - one.cut_at)
         frames = self.told(number, is_silent)
         if self.turning is not None:
             frames, self.turning = [*self.turning.frames, *frames], None
         self.acked, self.acked_at, self.held = number, now, len(frames)
-        if self.sending <= number:
+        if self.own is None and self.sending <= number:
             self.sending, self.sent = number + 1, 0
-        if self.mode == FILLING:
+        if self.mode == FILLING and self.own is None:
             self.mode = PAIRED
             self.pacer.end()
-            self.log.info(f"protected: {self.standby[0]} has the full checkpoint of generation {generation}")
+            self.log.info(f"protected: {self.standby[0]} has the full checkpoint of generation {self.generation}")
         if frames:
             self.put(frames, now)
 
@@ -411,14 +540,26 @@ class Live:
     # Attachments.
 
     def protect(self, now):
-        """A full checkpoint is cut, for a standby or a file: the next generation begins."""
+        """A full checkpoint is cut, for a standby, a log or a file: the next generation begins."""
         answer = self.node.ask("protect")
         self.generation, self.mode, self.looks.spent = answer.number(1), FILLING, 0
         self.pending = OrderedDict({0: Pending(answer.number(2), False, now)})
         self.to_look, self.most = looks(self.pages), answer.number(2)
-        self.cut, self.acked, self.sending, self.sent, self.is_fetched = 0, None, 0, 0, False
+        self.cut, self.acked, self.sending, self.sent, self.is_fetched, self.fetching = 0, None, 0, 0, False, 0
         self.acked_at = self.epoch_begun = now
         self.watch.begin_generation()
+
+    def keep_log(self, own: OwnLog, now: float) -> None:
+        """From its full checkpoint on the guest is in this host's own log."""
+        self.protect(now)
+        self.own, self.mode, self.sending = own, ALONE, 1
+        own.belongs_in(self.generation)
+
+    def go_on_with_log(self, own: OwnLog, now: float) -> None:
+        """The log of the standby that this host was goes on as its own."""
+        self.own = own
+        self.turning = turning.after_going_live(own)
+        turning.go_on(self, now)
 
     def attach(self, session, standby, now):
         if not self.is_stopped and (steps := self.steps_due(now)) > 0:  # since it stands while its disk is copied
@@ -428,23 +569,41 @@ class Live:
         self.session, self.standby = session, standby
         self.pacer.begin(self.link.now())
 
+    def attach_from_log(self, standby: tuple[str, str], generation: int, number: int) -> None:
+        """A standby is filled from this host's own log, from a text on, while the guest goes on by that log."""
+        self.session, self.standby, self.mode, self.heard, self.successor = bytes.fromhex(self.own.head.session), standby, FILLING, None, None
+        self.filling = Filling(self, generation, number)
+
     def begin_generation(self, now):
         """The full checkpoint of this generation is pending, and isn't sent."""
         self.pending = OrderedDict({0: Pending(0, True, now)})
         self.to_look, self.cut, self.acked, self.sending, self.sent, self.is_fetched = 0, 0, None, 1, 0, True
-        self.acked_at = now
+        self.acked_at, self.fetching = now, 1
 
     def resume(self, generation, committed, now):
         """The standby's connection is a new one, and it has committed so much."""
+        self.successor = None
+        if self.own is not None:
+            return self.resume_from_log(generation, committed, now)
         if self.turning is not None and generation == self.turning.before:
-            self.successor = None
             turning.resend(self, committed, now)
             self.sending, self.sent = 1, 0
             return
         if committed is not None:
             self.acknowledge(self.generation, committed, now)
-        self.successor = None
         self.sending, self.sent = next(iter(self.pending), self.cut + 1), 0
+
+    def resume_from_log(self, generation: int, committed: int | None, now: float) -> None:
+        """It gets what it lacks from memory, or from this host's own log."""
+        if committed is not None:
+            self.acknowledge(generation, committed, now)
+        number = 0 if committed is None else committed + 1
+        if generation == self.generation and (number > self.cut or number in self.pending) and self.filling is None:
+            self.sending, self.sent = number, 0
+        elif self.filling is None:
+            self.filling = Filling(self, generation, number, True)
+        else:
+            self.filling.resume(generation, number)
 
     def stands_in(self, generation):
         """Whether a standby of this attachment may be in that generation."""
@@ -452,6 +611,8 @@ class Live:
 
     def last_acked(self, generation):
         """What the standby has acknowledged of a generation."""
+        if self.own is not None:
+            return self.heard[1] if self.heard is not None and self.heard[0] == generation else None
         return self.acked if generation == self.generation else self.turning.acked
 
     def heard_of(self, name, instance):
@@ -467,15 +628,49 @@ class Live:
         self.alone(now)
 
     def alone(self, now):
-        """The standby has stopped for good: all that is held is let out."""
+        """The standby has stopped for good: what is held for it is let out."""
+        if self.own is not None:
+            return self.alone_with_log(now)
         held = self.turning.frames if self.turning is not None else []
         is_alone = self.turning is not None and self.turning.left[:1] == [b"protect"]  # the node is, and has let out what it had
         frames = [*held, *(() if is_alone else self.node.ask("alone").frames)]
         self.turning, self.turn_wanted = None, False
-        self.mode, self.session, self.standby, self.successor, self.late_ack = ALONE, None, None, None, None
+        self.mode, self.session, self.standby, self.successor, self.late_ack, self.heard = ALONE, None, None, None, None, None
         self.pacer.end()
         self.pending, self.cut, self.acked, self.outbox, self.is_full = OrderedDict(), None, None, 0, False
         self.moved_at = now
         self.put(frames, now)
         self.looks.begin(now)
         self.end_wait(now)
+
+    def alone_with_log(self, now: float) -> None:
+        """It goes on by its own log, and turns at the next cut, so that the standby's log is one of an earlier generation: unless the standby
+        hadn't caught up, and couldn't go live by what it has."""
+        needs_turn = self.needs_standby
+        self.leave_filling()
+        self.mode, self.session, self.standby, self.successor, self.heard = ALONE, None, None, None, None
+        self.release(now)
+        self.end_wait(now)
+        if needs_turn:
+            self.turn_wanted = True
+            if self.cut is not None and len(self.pending) < MOST_PENDING and self.turning is None and not self.is_stopped:
+                self.was_cut(now, *self.tell(*self.cut_lines()))
+
+    def leave_filling(self) -> None:
+        if self.filling is not None:
+            self.filling.forget()
+            self.filling = None
+
+    def give_up_log(self, now: float) -> None:
+        """Its own log failed, and the guest goes on without: by its standby, or alone."""
+        had_standby = self.needs_standby
+        if self.filling is not None and self.filling.feed is not None:
+            self.sending, self.sent = next(iter(self.pending), 1 if self.cut is None else self.cut + 1), 0
+        self.leave_filling()
+        self.own = None
+        if not had_standby:
+            self.link.close()
+            self.alone(now)
+        else:
+            self.mode = PAIRED
+            self.release(now)

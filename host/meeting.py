@@ -4,12 +4,13 @@ import secrets
 
 from host import messages
 from host.backoff import Backoff
-from host.connection import Closed
+from host.connection import Closed, Connection
 from host.drift import Drift
 from host.link import AGAIN
-from host.live import ALONE, FILLING, LONG, PAIRED
+from host.live import LONG
 from host.log.kept import Unprepared
 from host.messages import GO_LIVE, HELLO, NO, NO_SESSION, OFFER, OVER, READY, RESUME, Malformed, fields
+from host.modes import ALONE, FILLING, PAIRED
 from host.node import Refused
 from host.troubles import Trouble
 
@@ -36,7 +37,7 @@ class Meeting:
 
     def hello(self):
         host = self.host
-        self.said_role, session = host.role, host.session.hex() if host.session else None
+        self.said_role, session = host.role, host.branch
         return messages.told(HELLO, NO_SESSION, version=messages.VERSION, name=host.settings.name, instance=host.instance,
                              role=host.role, life=host.life if host.role != "empty" else None, generation=host.generation,
                              session=session, full=host.full, committed=host.standby.committed if host.standby else None,
@@ -63,8 +64,8 @@ class Meeting:
             self.over(connection, fields(kind, body), now)
         elif kind == OFFER:
             self.take_offer(connection, session, fields(kind, body), now)
-        elif kind == RESUME and self.host.standby and session == self.host.session:
-            self.resumed(connection, fields(kind, body), now)
+        elif kind == RESUME and self.host.standby and (session == self.host.session or self.host.standby.logged is not None):
+            self.resumed(connection, session, fields(kind, body), now)
         else:
             raise Malformed(f"a message of kind {kind} before an attachment")
 
@@ -88,7 +89,9 @@ class Meeting:
         if hello["role"] == "live":
             return self.met_another_live(connection, hello)
         session = hello["session"]
-        if session is not None and live.session is not None and session == live.session.hex():
+        if live.own is not None and self.is_beginning(hello):
+            return self.resume_from_log(connection, hello, now)
+        if session is not None and live.session is not None and session == live.session.hex() and live.own is None:
             return self.resume(connection, hello, now)
         self.withdraw(hello["name"])
         if session is not None or hello["role"] == "frozen":
@@ -112,8 +115,10 @@ class Meeting:
         """A standby that has begun anew before all of the full checkpoint was sent to it holds nothing with which anybody could go live."""
         live = self.host.live
         is_anew = live.standby is not None and hello["name"] == live.standby[0] and hello["instance"] != live.standby[1]
-        if is_anew and live.mode == FILLING and not live.is_fetched and self.host.task is None:
-            self.log.info(f"{hello['name']} has begun anew, before all of the full checkpoint was sent: it is filled anew")
+        is_unfilled = not live.is_fetched if live.own is None else not live.needs_standby
+        if is_anew and live.mode == FILLING and is_unfilled and self.host.task is None:
+            had = "all of the full checkpoint was sent" if live.own is None else "it had all that was let out"
+            self.log.info(f"{hello['name']} has begun anew, before {had}: it is filled anew")
             self.is_lost(now)
             self.link.close()
             live.alone(now)
@@ -144,16 +149,52 @@ class Meeting:
         if live.mode != ALONE:
             return (f"this host has a standby, {live.standby[0] if live.standby else 'a snapshot'}: 'alone' has to be told first, once "
                     "that has stopped")
+        if live.own is not None and live.own.number_in(live.generation) is None:
+            return "this host's own log isn't begun yet" if live.own.failed is None else f"this host's own log failed, {live.own.failed}"
         return None
 
     def offer(self, connection, hello, now):
-        host, session = self.host, secrets.token_bytes(16)
-        self.offered[connection] = session, (hello["name"], hello["instance"]), host.live.generation
+        host, own = self.host, self.host.live.own
+        if own is None:
+            session, generation, more = secrets.token_bytes(16), host.live.generation + 1, {}
+        else:
+            session, generation, more = bytes.fromhex(own.head.session), own.parts[0].generation, {"joins": True}
+        self.offered[connection] = session, (hello["name"], hello["instance"]), generation
         self.link.knows(connection)
         self.link.awaits(connection, "that it is ready", now)
         pages, sectors = host.shape
         connection.send(messages.told(OFFER, session, name=host.settings.name, instance=host.instance, life=host.life,
-                                      generation=host.live.generation + 1, pages=pages, sectors=sectors))
+                                      generation=generation, pages=pages, sectors=sectors, **more))
+
+    # Who has a beginning of this host's own log.
+
+    def is_beginning(self, hello: dict) -> bool:
+        is_held = hello["role"] == "standby" and hello["session"] is not None and hello["life"] == self.host.life
+        return is_held and self.host.live.own.has(hello["session"], hello["generation"], hello["committed"])
+
+    def resume_from_log(self, connection: Connection, hello: dict, now: float) -> None:
+        """A standby gets what it lacks: this host's own, or one that comes back after it was left."""
+        live, standby = self.host.live, (hello["name"], hello["instance"])
+        generation, committed = hello["generation"], hello["committed"]
+        is_own = live.standby == standby
+        if is_own:
+            acked = live.last_acked(generation)
+            if live.needs_standby and acked is not None and (committed is None or committed < acked):
+                return self.behind(connection, hello, f"{generation} up to checkpoint {acked}")
+        elif why := self.why_no_offer():
+            return self.refuse(connection, why)
+        else:
+            self.host.counts.attachments += 1
+            live.attach_from_log(standby, generation, 0 if committed is None else committed + 1)
+            self.log.info(f"{hello['name']} is back with a beginning of this host's log, up to checkpoint {committed} of generation "
+                          f"{generation}: it gets what it lacks")
+        told = {} if live.needs_standby else {"behind": True}
+        connection.send(messages.told(RESUME, live.session, name=self.host.settings.name, instance=self.host.instance, **told))
+        self.link.attach(connection, live.session, now)
+        self.compare(now)
+        if is_own:
+            self.log.info(f"the link to {hello['name']} is back")
+            live.resume(generation, committed, now)
 
     # Two hosts that are live.
 
@@ -292,11 +333,14 @@ class Meeting:
         host, live = self.host, self.host.live
         session, standby, generation = self.offered.pop(connection)
         why = self.why_no_offer()
-        if why is None and live.generation != generation:
-            why = f"this host lives in generation {live.generation} since, and offered one after {generation}"
+        if why is None and generation != (live.generation + 1 if live.own is None else live.own.parts[0].generation):
+            why = f"this host lives in generation {live.generation} since, and offered {generation}"
         if why is None:
             try:
-                live.attach(session, standby, now)
+                if live.own is None:
+                    live.attach(session, standby, now)
+                else:
+                    live.attach_from_log(standby, generation, 0)
             except Refused as refused:
                 why = f"the node refuses to protect the guest: {refused}"
                 self.log.error(f"{why}; it is asked again in {self.protecting.failed(now):.0f} s at the earliest")
@@ -306,8 +350,9 @@ class Meeting:
         host.counts.attachments += 1
         self.link.attach(connection, session, now)
         self.attached_at = now
-        self.log.info(f"{standby[0]} is the new standby: its full checkpoint of generation {live.generation} has at most "
-                      f"{live.pending[0].total} bytes")
+        told = (f"its full checkpoint of generation {live.generation} has at most {live.pending[0].total} bytes" if live.own is None else
+                f"it is filled from this host's log, from generation {generation} on")
+        self.log.info(f"{standby[0]} is the new standby: {told}")
         self.compare(now)
 
     def declined(self, connection, told):
@@ -354,7 +399,8 @@ class Meeting:
             self.link.trouble.is_so(f"{told['name']} doesn't let this host in: {told['why']}")
         else:
             self.link.trouble.is_so(f"{told['name']} is {told['role']}, and nobody lives there", "info")
-        if self.host.role == "standby" and not self.host.full and told["role"] in ("empty", "standby"):
+        is_logged = told["role"] == "standby" and self.host.standby is not None and self.host.standby.logged is not None
+        if self.host.role == "standby" and not self.host.full and told["role"] in ("empty", "standby") and not is_logged:
             self.give_up(f"{told['name']}, which had the guest, is {told['role']}")
 
     def turned_away(self, told):
@@ -392,8 +438,8 @@ class Meeting:
         self.link.leave(connection)
         self.link.dial_at = now + seconds
 
-    def resumed(self, connection, told, now):
-        self.host.standby.restart()
+    def resumed(self, connection, session, told, now):
+        self.host.standby.resume(session, told.get("behind", False))
         self.host.kept.attached()
         self.met(connection, self.host.session, told, now)
         self.log.info(f"the link to {told['name']} is back")

@@ -19,12 +19,14 @@ before there is one), and its body:
     13 LONG     the standby: its log is long, and is to go on with a later generation
     14 TURN     who is live: a generation and a number (8 bytes each), and a later generation, whose checkpoint 0 is the guest as it is
                 there. No text of it comes; the standby acknowledges it as any other
+    15 JOIN     who is live, to a standby that was filled from its log: generation and number of the last checkpoint that was sent. From
+                there on nothing is let out that the standby hasn't acknowledged
 
 FIELDS has the fields of the JSON objects."""
 import json
 import struct
 
-HELLO, OFFER, READY, RESUME, NO, OVER, TEXT, ACK, PING, GO_LIVE, LIVE, STAYS, LONG, TURN = range(1, 15)
+HELLO, OFFER, READY, RESUME, NO, OVER, TEXT, ACK, PING, GO_LIVE, LIVE, STAYS, LONG, TURN, JOIN = range(1, 16)
 LENGTH, HEAD = struct.Struct(">I"), struct.Struct(">IB16s")
 PLACE = struct.Struct(">QQQQ")  # of a text's bytes: generation, number, where they begin, and how many the whole text has, at most
 TEXT_HEAD = struct.Struct(">IB16sQQQQ")  # both
@@ -57,25 +59,30 @@ def acknowledgement(session, generation, number):
     return message(ACK, session, NUMBER.pack(generation, number))
 
 
+def joined(session: bytes, generation: int, number: int) -> bytes:
+    return message(JOIN, session, NUMBER.pack(generation, number))
+
+
 def turn(session: bytes, generation: int, number: int, later: int) -> bytes:
     return message(TURN, session, TURNED.pack(generation, number, later))
 
 
 def taken(buffer, most):
-    """The messages that are whole in a bytearray, which then has the rest: triples of kind, session and body."""
+    """The messages that are whole in a bytearray, which then has the rest: triples of kind, session and body. Where that begins with a longer
+    one it is Malformed, once nothing stands before it: by what does, longer ones may be due."""
     found, at, end = [], 0, len(buffer)
     while end - at >= HEAD.size:
         length, kind, session = HEAD.unpack_from(buffer, at)
         if not 17 <= length <= most:
             break
-        if not HELLO <= kind <= TURN:
+        if not HELLO <= kind <= JOIN:
             raise Malformed(f"a message of kind {kind}")
         begin, behind = at + HEAD.size, at + LENGTH.size + length
         if behind > end:
             break
         found.append((kind, session, bytes(buffer[begin:behind])))
         at = behind
-    if end - at >= LENGTH.size and not 17 <= (length := LENGTH.unpack_from(buffer, at)[0]) <= most:
+    if not found and end - at >= LENGTH.size and not 17 <= (length := LENGTH.unpack_from(buffer, at)[0]) <= most:
         raise Malformed(f"a message of {length} bytes")
     del buffer[:at]
     return found
@@ -94,8 +101,15 @@ FIELDS = {
 }
 
 
-# What a greeting has besides, where its host keeps logs: logs of that life up to that generation are stale.
-BESIDES = {"outlived_life": TEXTUAL, "outlived_generation": NUMBERS}
+# What these may have besides, where hosts keep logs. A greeting: logs of that life up to that generation are stale; what was heard of the
+# other host's log; the session of the log behind which this one went live. An offer: whether what was let out is in the live host's log, and
+# the standby is told once it has that too. Who is resumed is told whether he lacks something that was let out.
+BESIDES = {
+    HELLO: {"outlived_life": TEXTUAL, "outlived_generation": NUMBERS, "heard_life": TEXTUAL, "heard_generation": NUMBERS,
+            "heard_number": NUMBERS, "went_from": TEXTUAL, "branch": TEXTUAL},
+    OFFER: {"joins": TRUTH},
+    RESUME: {"behind": TRUTH},
+}
 
 
 def fields(kind, body):
@@ -105,8 +119,8 @@ def fields(kind, body):
     except (ValueError, RecursionError):
         raise Malformed("a body that isn't JSON") from None
     wanted = FIELDS[kind]
-    if isinstance(found, dict) and kind == HELLO and found.keys() & BESIDES.keys():
-        wanted = wanted | BESIDES
+    if isinstance(found, dict):
+        wanted = wanted | {name: types for name, types in BESIDES.get(kind, {}).items() if name in found}
     if not isinstance(found, dict) or found.keys() != wanted.keys():
         raise Malformed("a body without its fields")
     for name, value in found.items():

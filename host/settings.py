@@ -49,6 +49,7 @@ class Settings:
     guest_address: str | None = None
     metrics: tuple[str, int] | None = None
     log: str = "none"
+    log_on_failure: str = "hold"
     log_limit_mb: int = 256
     log_format: str = field(default_factory=lambda: "journal" if "JOURNAL_STREAM" in os.environ else "text")
     log_level: str = "info"
@@ -151,11 +152,9 @@ def one_of(*names):
 
 
 def log(value: object) -> str:
-    if value == "both":
-        raise Mistake("can't be both: a live host keeps no log of its own; standby has its standby keep one")
     if value in ("text", "json", "journal"):
-        raise Mistake(f"must be standby or none; how the daemon spells its lines is log_format = {value}")
-    return one_of("standby", "none")(value)
+        raise Mistake(f"must be both, standby or none; how the daemon spells its lines is log_format = {value}")
+    return one_of("both", "standby", "none")(value)
 
 
 def ipv4(value):
@@ -190,8 +189,9 @@ KEYS = {
     "frames": (socket_path, "for socket: its path"),
     "guest_address": (ipv4, "the guest's IPv4 address"),
     "metrics": (loopback_endpoint, "ADDRESS:PORT of the loopback for Prometheus"),
-    "log": (log, "standby, where a standby keeps a log of the guest in the state folder, or none"),
-    "log_limit_mb": (count(1_000_000), "mebibytes after which the standby's log is begun anew, beside the full checkpoint"),
+    "log": (log, "which hosts keep a log of the guest in the state folder: both, standby (while a host is one), or none"),
+    "log_on_failure": (one_of("hold", "go-on"), "what a live host does whose own log fails: hold what the guest sends, or go-on without"),
+    "log_limit_mb": (count(1_000_000), "mebibytes after which a log is begun anew, beside the full checkpoint"),
     "log_format": (one_of("text", "json", "journal"), "of what the daemon says: text, json or journal"),
     "log_level": (one_of("debug", "info", "warning", "error"), "debug, info, warning or error"),
 }

@@ -5,7 +5,7 @@ import socket
 import time
 from types import FrameType
 
-from host.live import PAIRED
+from host.modes import PAIRED
 from host.node import FAULTS, SHIELDED
 from host.tasks import Drain
 

@@ -4,7 +4,7 @@ from collections.abc import Callable
 from typing import Any, Protocol
 
 from host.files import WholeFile
-from host.live import MOST_PENDING
+from host.modes import MOST_PENDING
 from host.meeting import go_live
 from host.node import Refused
 from host.snapshot import Header, check_replaced

@@ -1,6 +1,7 @@
-"""A live host turns its guest over into a later generation without a full text, so that its standby's log can begin anew: where it was cut
-it goes alone and protects, twice. A standby that goes live and protects where the same cut was committed is the same primary, so that
-checkpoint 0 of the later generation is told by where the earlier one stands. What `alone` lets out is held until that is acknowledged."""
+"""A live host turns its guest over into a later generation without a full text, so that logs can begin anew: where it was cut it goes alone
+and protects, twice. A standby that goes live and protects where the same cut was committed is the same primary, so that checkpoint 0 of the
+later generation is told by where the earlier one stands. What `alone` lets out is held until that is acknowledged, and in this host's own
+log, if it has one."""
 from collections import OrderedDict
 
 from host import messages
@@ -33,20 +34,43 @@ class Turn:
                     live.link.send(messages.text(live.session, self.before, number, at, len(text), text[at:at + PIECE]), now)
 
     def tell(self, live: "Live", now: float) -> None:
-        live.link.send(messages.turn(live.session, self.before, self.number, live.generation), now)
+        if live.is_linked:
+            live.link.send(messages.turn(live.session, self.before, self.number, live.generation), now)
 
 
 def begin(live: "Live", now: float) -> bool:
     """Begins it, where the guest was just cut. Whether it has: not where much is pending."""
-    if not live.is_linked or live.is_stopped or live.turning is not None or live.pacer.is_on(now):
+    own = live.own
+    if live.is_stopped or live.turning is not None or live.pacer.is_on(now) or sum(one.total for one in live.pending.values()) > MOST:
         return False
-    if sum(one.total for one in live.pending.values()) > MOST:
+    if own is not None and (own.failed is not None or own.number_in(live.generation) is None) or own is None and not live.is_linked:
         return False
-    live.turning = turn = Turn(live.generation, live.cut, OrderedDict((number, whole(live, number)) for number in live.pending), live.acked)
-    turn.send(live, live.sending, live.sent, now)
+    if own is None:
+        texts = OrderedDict((number, whole(live, number)) for number in live.pending)
+        live.turning = turn = Turn(live.generation, live.cut, texts, live.acked)
+        turn.send(live, live.sending, live.sent, now)
+    else:
+        live.turning = turn = Turn(live.generation, live.cut, OrderedDict(), live.acked)
+        hand_all(live, now)
     turn.frames = list(live.tell(b"alone")[0].checked().frames)
     go_on(live, now)
     return True
+
+
+def hand_all(live: "Live", now: float) -> None:
+    """All of the earlier generation is given to this host's own log, and sent, unless it is read from there."""
+    live.fetch_all(now)
+    if live.filling is None or live.filling.feed is None:
+        live.send_all(now)
+    if live.filling is not None:
+        live.filling.turns()
+
+
+def after_going_live(own: "OwnLog") -> Turn:
+    """Of a standby that has just gone live, whose log goes on."""
+    turn = Turn(own.generation, own.given, OrderedDict(), None)
+    turn.left = [b"protect"]
+    return turn
 
 
 def go_on(live: "Live", now: float) -> bool:
@@ -61,7 +85,10 @@ def go_on(live: "Live", now: float) -> bool:
         live.generation = answer.number(1)
     live.begin_generation(now)
     live.watch.begin_generation()
-    turn.tell(live, now)
+    if live.own is not None:
+        live.own.turn(live.generation)
+    if live.filling is None or live.filling.feed is None:
+        turn.tell(live, now)
     return True
 
 

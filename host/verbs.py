@@ -6,7 +6,7 @@ from typing import Any
 from host import metrics, requests
 from host.boot import BadGuest
 from host.guarded import guarded
-from host.live import ALONE, PAIRED
+from host.modes import ALONE, PAIRED
 from host.node import Refused
 from host.snapshot import NoBoot, NotASnapshot, boot_over, load
 from host.tasks import Answer, Asker, Drain, Promotion, Save, Tell, refusal

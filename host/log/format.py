@@ -11,7 +11,7 @@ BLOCK_ROOM = BLOCK // SECTOR * ROOM
 SUM = struct.Struct("<I")
 HEADER = struct.Struct("<4sIQQQQQ16s")  # magic, kind, generation, number, when, length, synced, chain
 MAGIC, BASE_MAGIC, MARK_MAGIC = b"RMLG", b"RMLB", b"RMLM"
-HEAD, TEXT, OVER = 1, 2, 3
+HEAD, TEXT, OVER, JOINED = 1, 2, 3, 4
 BASE_HEAD = struct.Struct("<4sIQQ32s")  # magic, zero, generation, length, sum
 MARK = struct.Struct("<4sIQQQ")  # magic, zero, generation, number, synced
 FIRST = bytes(16)  # the chain before the first record
@@ -40,7 +40,8 @@ class Record(NamedTuple):
 
 class Head(NamedTuple):
     """What a generation's log is of: the guest's life and shape; the attachment, and its standby; and on what it stands: a base, whose sum
-    this is, or what the log of an earlier generation holds up to a number, and then a base may come later."""
+    this is, or what the log of an earlier generation holds up to a number, and then a base may come later. `joined` is False where frames
+    may have been let out that it lacks, until a record says that it has caught up."""
     life: str
     pages: int
     sectors: int
@@ -48,9 +49,10 @@ class Head(NamedTuple):
     instance: str
     base: str | None
     stands_on: list[int] | None = None
+    joined: bool = True
 
 
-TYPES = {"life": str, "pages": int, "sectors": int, "session": str, "instance": str}
+TYPES = {"life": str, "pages": int, "sectors": int, "session": str, "instance": str, "joined": bool}
 
 
 def seed_of(name: str) -> int:

@@ -1,4 +1,4 @@
-"""The log of a standby as its daemon has it: what it is to have is given to a thread of its own, which writes it, syncs it, and tells what
+"""A log as its daemon has it: what it is to have is given to a thread of its own, which writes it, syncs it, and tells what
 is on the disk. Syncs go together: all that was given while one was under way is written before the next."""
 import signal
 import socket
@@ -14,12 +14,13 @@ from host.log.reading import Found, links, newest
 from host.log.writer import BaseFile, LogFile, Mark, begun, continued, tidy
 
 MARK_EVERY = 1.0  # seconds
+LAZY = 2  # texts that nobody waits for, which go with the next that is waited for, or once there are so many
 Job = tuple[Callable[..., None], ...]
 
 
 class Keeper:
-    """`reached` is (session, generation, number): of that attachment all up to there is on the disk. `failed` is why nothing more is
-    written, if so. The methods of the loop give what is to be done, and answer at once."""
+    """`reached` is (session, generation, number): of that attachment all up to there is on the disk, and `is_joined` whether that is all that
+    was let out. `failed` is why nothing more is written, if so. The methods of the loop give what is to be done, and answer at once."""
 
     def __init__(self, disk: Disk, folder: Path) -> None:
         self.disk, self.folder = disk, Path(folder)
@@ -29,9 +30,10 @@ class Keeper:
         self.marked_at, self.synced_at = 0.0, None
         self.syncs, self.sync_seconds = 0, 0.0
         self.reached: tuple[str, int, int] | None = None
+        self.is_joined = False
         self.failed: str | None = None
         self.jobs: deque[Job] = deque()
-        self.more, self.is_ending = threading.Condition(), False
+        self.more, self.is_ending, self.is_urgent = threading.Condition(), False, False
         self.woken, self.wakes = socket.socketpair()
         for end in (self.woken, self.wakes):
             end.setblocking(False)
@@ -70,9 +72,13 @@ class Keeper:
         """The log goes on with a later generation, whose head says on what it stands."""
         self.give(self.turn_log, generation, head)
 
-    def based(self) -> None:
-        """The base of the generation that is written is on the disk: what is of earlier ones goes."""
-        self.give(self.tidy_behind_base)
+    def based(self, generation: int, kept: set[int]) -> None:
+        """The base of a generation is on the disk: what is of earlier ones than these goes."""
+        self.give(self.tidy_behind_base, generation, kept)
+
+    def join(self) -> None:
+        """What was given so far is all that was let out."""
+        self.give(self.write_joined)
 
     def wake(self) -> None:
         """The loop is told that there is something new, by whatever thread."""
@@ -81,8 +87,9 @@ class Keeper:
         except BlockingIOError:
             pass  # it is going to wake all the same
 
-    def text(self, number: int, data: bytes) -> None:
-        self.give(self.append, number, data)
+    def text(self, number: int, data: bytes, is_urgent: bool = True) -> None:
+        """`is_urgent`: somebody waits for it."""
+        self.give(self.append, number, data, is_urgent=is_urgent)
 
     def over(self) -> None:
         """The log that is written is never loaded again."""
@@ -93,13 +100,15 @@ class Keeper:
         """No log that is in the folder is ever loaded again."""
         self.give(self.end_what_is_here)
 
-    def give(self, *job) -> None:
+    def give(self, *job, is_urgent: bool = True) -> None:
         if self.thread is None:
             self.thread = threading.Thread(target=self.run, name="sync", daemon=True)
             self.thread.start()
         with self.more:
             self.jobs.append(job)
-            self.more.notify()
+            self.is_urgent |= is_urgent or len(self.jobs) >= LAZY
+            if self.is_urgent:
+                self.more.notify()
 
     def finish(self, seconds: float) -> bool:
         """Waits, so long at most, until all that was given is on the disk. Whether it is."""
@@ -125,9 +134,9 @@ class Keeper:
         signal.pthread_sigmask(signal.SIG_BLOCK, signal.valid_signals())  # they are the daemon's
         while True:
             with self.more:
-                while not self.jobs and not self.is_ending:
+                while not self.is_urgent and not self.is_ending:
                     self.more.wait()
-                jobs, self.jobs = self.jobs, deque()
+                jobs, self.jobs, self.is_urgent = self.jobs, deque(), False
             if not jobs:
                 return
             self.work(jobs)
@@ -161,7 +170,7 @@ class Keeper:
     def continue_log(self, found: Found) -> None:
         self.log = continued(self.disk, self.folder, found)
         self.mark = Mark(self.disk, self.folder, found.generation)
-        self.reached = (found.head.session, found.generation, found.number)
+        self.reached, self.is_joined = (found.head.session, found.generation, found.number), found.is_joined
 
     def begin_base(self, generation: int, most: int) -> None:
         self.disk.make_folder(self.folder)
@@ -193,14 +202,14 @@ class Keeper:
     def begin_log(self, generation: int, head: Head) -> None:
         base, self.base = self.base, None
         self.next_log(generation, head._replace(base=base.finish()))
-        self.tidy()
-        self.reached = (head.session, generation, 0)
+        tidy(self.disk, self.folder, {generation})
+        self.reached, self.is_joined = (head.session, generation, 0), head.joined
 
     def turn_log(self, generation: int, head: Head) -> None:
         self.sync()  # what it stands on
         self.forget(f"{generation}.base")
         self.next_log(generation, head)
-        self.reached = (head.session, generation, 0)
+        self.reached, self.is_joined = (head.session, generation, 0), head.joined
 
     def next_log(self, generation: int, head: Head) -> None:
         self.close_log()
@@ -208,12 +217,12 @@ class Keeper:
         self.log, self.synced_at = begun(self.disk, self.folder, generation, head), time.time()
         self.mark, self.marked_at = Mark(self.disk, self.folder, generation), 0.0
 
-    def tidy_behind_base(self) -> None:
-        if f"{self.log.generation}.base" in self.disk.names(self.folder):
-            self.tidy()
+    def tidy_behind_base(self, generation: int, kept: set[int]) -> None:
+        if f"{generation}.base" in self.disk.names(self.folder):
+            tidy(self.disk, self.folder, kept)
 
-    def tidy(self) -> None:
-        tidy(self.disk, self.folder, {self.log.generation})
+    def write_joined(self) -> None:
+        self.log.join()
 
     def forget(self, *names: str) -> None:
         """What is left under these names is of another life, of a generation with the same number."""
@@ -241,7 +250,7 @@ class Keeper:
             begun_at = time.monotonic()
             log.sync()
             self.syncs, self.sync_seconds = self.syncs + 1, self.sync_seconds + time.monotonic() - begun_at
-            self.reached, self.synced_at = (log.session, log.generation, log.number), time.time()
+            self.reached, self.is_joined, self.synced_at = (log.session, log.generation, log.number), log.is_joined, time.time()
 
     def settle(self, done: threading.Event) -> None:
         """Somebody waits for what was given before, whether it failed or not."""

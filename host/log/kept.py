@@ -1,13 +1,16 @@
 """What a daemon has of its log: the standby that it is from its start on; what its standby has committed, and what of that is on the disk;
 and whether what a log holds may be promoted."""
 import datetime
+import secrets
 
 from host.backoff import Backoff
 from host.log.catch_up import CatchUp
 from host.log.disk import Disk
 from host.log.format import Head, LogBehind, Rotten
 from host.log.keeper import Keeper
-from host.log.reading import Found, newest
+from host.log.logged import Logged, Part, parts_of
+from host.log.own import OwnLog
+from host.log.reading import Found, links, newest
 from host.log.recovery import recovered
 from host.node import Node, NodeEnded
 from host.text import COUNT, MOST_PAGE, RECORDS_AT, SECTOR
@@ -17,30 +20,30 @@ WORKED = 600.0  # seconds, after which a log that fails isn't taken for one that
 MEBIBYTE = 1 << 20
 LOW = 64 * MEBIBYTE  # bytes of room on the disk, below which that is told
 LOOK_EVERY = 10.0  # seconds
+GO_ON = "go-on"  # of log_on_failure
 MORE = 1 << 62  # than any number of a checkpoint: what a frozen host holds is of its guest as it stopped
 
 
-class StandbyLog:
-    """The log of one attachment: `given` is the last number that the keeper has, of `generation`, and `reached` the last generation and
-    number that are on the disk."""
+class StandbyLog(Logged):
+    """That of a standby, which its live host's messages fill."""
 
-    def __init__(self, kept: "Kept", head: Head, generation: int, number: int | None = None) -> None:
-        self.kept, self.keeper, self.head, self.generation = kept, kept.keeper, head, generation
-        self.given, self.begun_at = number, None if number is None else (generation, number)
-        self.parts = []  # of the text that is coming
+    def __init__(self, kept: "Kept", head: Head, generation: int, number: int | None = None, parts: list[Part] | None = None) -> None:
+        super().__init__(kept.keeper, head, generation, number, parts)
+        self.kept, self.limit = kept, kept.limit
+        self.pieces = []  # of the text that is coming
 
     def came(self, number: int, begin: int, data: bytes) -> None:
         """The next bytes of a text."""
         if number == 0 and self.given is None:
             self.keeper.piece(data, begin == 0)
         elif begin == 0:
-            self.parts = [data]
+            self.pieces = [data]
         else:
-            self.parts.append(data)
+            self.pieces.append(data)
 
     def committed(self, number: int) -> bytes | None:
         """The text that came is committed. It, if it is one that the log lacked."""
-        text, self.parts = b"".join(self.parts), []
+        text, self.pieces = b"".join(self.pieces), []
         if number == 0 and self.given is None:
             self.keeper.begin(self.generation, self.head)
         elif self.given is not None and number == self.given + 1:
@@ -50,23 +53,15 @@ class StandbyLog:
         self.given = number
         return text
 
-    @property
-    def reached(self) -> tuple[int, int] | None:
-        reached = self.keeper.reached
-        return reached[1:] if reached is not None and reached[0] == self.head.session else self.begun_at
+    def belongs_to(self, session: str, instance: str) -> None:
+        """What is written into a later generation's head."""
+        self.head = self.head._replace(session=session, instance=instance)
 
-    @property
-    def is_long(self) -> bool:
-        log = self.keeper.log
-        return log is not None and log.end > self.kept.limit
+    def turn(self, generation: int, is_joined: bool) -> None:
+        self.pieces = []
+        super().turn(generation, is_joined)
 
-    def turn(self, generation: int) -> None:
-        """It goes on with a later generation, from where it stands."""
-        head = self.head._replace(base=None, stands_on=[self.generation, self.given])
-        self.generation, self.given, self.parts = generation, 0, []
-        self.keeper.turn(generation, head)
-
-    def catch_up(self, node: Node) -> CatchUp:
+    def catch_up(self, node: Node | None) -> CatchUp:
         """What makes the node of that generation, and its base, once it is begun."""
         kept, head = self.kept, self.head
         return CatchUp(node, kept.host.settings.node, kept.disk, kept.folder, head, self.generation, most_of(head.pages, head.sectors),
@@ -75,8 +70,8 @@ class StandbyLog:
     def caught_up(self, made: CatchUp) -> None:
         """The base is on the disk, unless that failed: then the earlier generation stays, and the log is long as before."""
         if made.wrong is None:
-            self.keeper.based()
-        else:
+            self.is_based(made.generation)
+        elif not made.is_hurried:
             self.kept.host.log.warning(f"the base of generation {made.generation} can't be written into {self.kept.folder}, {made.wrong}: "
                                        "what came before it stays")
 
@@ -95,9 +90,11 @@ class Kept:
 
     def __init__(self, host: "Daemon", disk: Disk) -> None:
         self.host, self.disk, self.folder = host, disk, host.state.folder / "log"
-        self.keeps, self.keeper = host.settings.log != "none", Keeper(disk, self.folder)
+        self.keeps, self.is_both = host.settings.log != "none", host.settings.log == "both"
+        self.keeper, self.has_said_failed = Keeper(disk, self.folder), False
         self.limit = host.settings.log_limit_mb * MEBIBYTE
         self.found: Found | None = None  # the log that this host is a standby from, until its live host has it again
+        self.parts: list[Part] = []  # on which that stands
         self.refused: str | None = None  # why the log that was here at the start isn't loaded
         self.backoff, self.prepared_at = Backoff(), 0.0
         self.is_low, self.looked_at, self.failures = False, 0.0, 0
@@ -117,6 +114,7 @@ class Kept:
                             "isn't loaded")
                 return None
             node = recovered(self.host.settings.node, self.disk, self.folder, found)
+            self.parts = parts_of(links(self.disk, self.folder, found))
         except (Rotten, LogBehind, NodeEnded, OSError) as error:
             self.refused = f"{type(error).__name__}: {error}"
             log.error(f"the log in {self.folder} is refused, and this host is empty: {self.refused}")
@@ -129,7 +127,7 @@ class Kept:
 
     # The standby's log.
 
-    def prepared(self, session: bytes, generation: int, life: str, shape: tuple[int, int]) -> StandbyLog | None:
+    def prepared(self, session: bytes, generation: int, life: str, shape: tuple[int, int], is_joined: bool) -> StandbyLog | None:
         """The log of a new attachment, for which there is room on the disk; None where none is kept. What was here is over then, and on the
         disk. Raises Unprepared."""
         self.found = self.peer = None
@@ -143,11 +141,12 @@ class Kept:
             return None
         if not self.keeper.finish(WAIT):
             raise Unprepared(self.left())
-        head = Head(life, pages, sectors, session.hex(), self.host.instance, "")
+        head = Head(life, pages, sectors, session.hex(), self.host.instance, "", None, is_joined)
         return StandbyLog(self, head, generation) if self.keeps else None
 
     def resumed(self, found: Found) -> StandbyLog:
-        return StandbyLog(self, found.head, found.generation, found.number)
+        """The log from which this host is a standby."""
+        return StandbyLog(self, found.head, found.generation, found.number, self.parts)
 
     def left(self) -> str:
         """Leaves a log that failed, and says why it did. It is never touched again by this keeper."""
@@ -183,16 +182,60 @@ class Kept:
                 self.host.log.error(f"it can't be written into {self.host.state.folder} that logs up to generation {generation} are stale, "
                                     f"{error.strerror}: promote no log of that guest")
 
-    def goes_live(self, generation: int) -> None:
-        """The guest runs here from now on, of which no log is written: before anything of it is let out, what is here is over."""
-        self.found = None
-        self.outlives(generation)
+    def goes_live(self, live: "Live", logged: StandbyLog | None) -> None:
+        """The guest runs here from now on, and this host's own log goes on with it, that of the standby which it was, or another one. Where
+        none is kept what is here is over before anything of it is let out. Raises Refused."""
+        self.found, now = None, self.host.link.now()
+        self.outlives(live.generation)
+        if self.is_both and logged is not None:
+            live.go_on_with_log(self.going_on(logged), now)
+        elif self.is_both:
+            self.keeper.prepare(live.generation + 1, self.most)
+            live.keep_log(OwnLog(self, self.own_head(""), live.generation + 1), now)
+        else:
+            self.end_what_is_here()
+
+    @property
+    def most(self) -> int:
+        return most_of(*self.host.shape)
+
+    def own_head(self, base: str | None) -> Head:
+        return Head(self.host.life, *self.host.shape, secrets.token_hex(16), self.host.instance, base)
+
+    def going_on(self, logged: StandbyLog) -> OwnLog:
+        own = OwnLog(self, self.own_head(None), logged.generation, logged.given, logged.parts,
+                     logged.session_of(logged.generation))
+        own.begun_at = None
+        return own
+
+    def end_what_is_here(self) -> None:
         if not self.disk.names(self.folder):
             return
         self.keeper.end_all()
         if not self.keeper.finish(WAIT):
             self.host.log.error(f"it can't be written into the log in {self.folder} that it is over: remove that folder before this daemon "
                                 "is started again, since what it holds is stale")
+
+    def look_at_own(self, live: "Live", now: float) -> None:
+        """A live host's own log: whether it failed, which is said once, and whether its disk is nearly full."""
+        own = live.own
+        if own is None:
+            return
+        if own.failed is None:
+            return self.look(now)
+        if self.has_said_failed:
+            return
+        self.has_said_failed = True
+        self.failures += 1
+        told = f"the log of this host in {self.folder} failed, {own.failed}"
+        if self.host.settings.log_on_failure == GO_ON:
+            self.host.log.error(f"{told}: the guest goes on without it, as log_on_failure says, and what it lets out without a standby is on "
+                                "no disk")
+            self.outlives(live.generation)
+            live.give_up_log(now)
+        else:
+            self.host.log.error(f"{told}: the guest lets out nothing more, as log_on_failure says. Hand it to the standby (drain --promote), or "
+                                "promote that; without one mend the disk, and restart this daemon: it goes on from its log")
 
     def told_to_peer(self) -> dict:
         """What a greeting says besides: up to which generation logs of a life are stale, where this host keeps logs and knows of one."""

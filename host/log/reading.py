@@ -5,17 +5,17 @@ from pathlib import Path
 from typing import NamedTuple
 
 from host.log.disk import Disk
-from host.log.format import (BASE_HEAD, BASE_MAGIC, BLOCK, FIRST, HEAD, HEADER, MAGIC, MARK, MARK_MAGIC, OVER, SECTOR, TEXT, Head,
+from host.log.format import (BASE_HEAD, BASE_MAGIC, BLOCK, FIRST, HEAD, HEADER, JOINED, MAGIC, MARK, MARK_MAGIC, OVER, SECTOR, TEXT, Head,
                              LogBehind, Record, Rotten, chained, generation_of, is_as_written, read_head, seed_of, size_of)
 
 PIECE = 1 << 20  # bytes that are read at a time
-KNOWN = {HEAD, TEXT, OVER}
+KNOWN = {HEAD, TEXT, OVER, JOINED}
 SUM_SIZE = 32
 
 
 class Found(NamedTuple):
     """A generation's log, up to its end. `places` has where the record of each text begins; `begun` and `ended` when the first record and
-    the last were written, in milliseconds of the wall clock."""
+    the last were written, in milliseconds of the wall clock; `is_joined` whether its standby could go live by it."""
     generation: int
     head: Head
     places: list[int]
@@ -24,6 +24,7 @@ class Found(NamedTuple):
     end: int
     begun: int
     ended: int
+    is_joined: bool = True
 
     @property
     def number(self) -> int:
@@ -45,6 +46,18 @@ class LogReader:
     def rotten(self, why: str) -> Rotten:
         return Rotten(f"{self.name}: {why}")
 
+    def look(self) -> None:
+        """The file may be longer by now."""
+        self.size = self.disk.size(self.file)
+
+    def header_at(self, place: int) -> tuple[int, int, int] | None:
+        """The kind and the number of the record that begins there, and where the next one does, if its first sector is as it was written."""
+        first = self.disk.read(self.file, SECTOR, place)
+        if len(first) < SECTOR or not is_as_written(first, self.seed, place // SECTOR):
+            return None
+        magic, kind, _, number, _, length, _, _ = HEADER.unpack_from(first, 4)
+        return (kind, number, place + size_of(length)) if magic == MAGIC else None
+
     def record_at(self, place: int) -> Record | None:
         """The record that begins there, if all of its sectors are there as they were written."""
         first = self.disk.read(self.file, BLOCK, place)
@@ -64,17 +77,19 @@ class LogReader:
 
     def judged(self) -> Found | None:
         """The log up to its end, or None where not even its head is there. Raises Rotten."""
-        place, chain, head, places, is_over, begun, ended = 0, FIRST, None, [], False, 0, 0
+        place, chain, head, places, is_over, begun, ended, is_joined = 0, FIRST, None, [], False, 0, 0, False
         while (one := self.record_at(place)) is not None:
             self.follows(one, place, chain, len(places), is_over)
             if one.kind == HEAD:
                 head, begun = read_head(one.data), one.when
+                is_joined = head.joined
             elif one.kind == TEXT:
                 places.append(place)
             is_over |= one.kind == OVER
+            is_joined |= one.kind == JOINED
             place, chain, ended = one.behind, one.chain, one.when
         self.check_torn(place)
-        return None if head is None else Found(self.generation, head, places, is_over, chain, place, begun, ended)
+        return None if head is None else Found(self.generation, head, places, is_over, chain, place, begun, ended, is_joined)
 
     def follows(self, one: Record, place: int, chain: bytes, number: int, is_over: bool) -> None:
         """Whether a record is the next one. Raises Rotten."""
@@ -120,6 +135,17 @@ def judged_log(disk: Disk, folder: Path, generation: int) -> Found | None:
     return found
 
 
+def head_of(disk: Disk, folder: Path, generation: int) -> Found:
+    """A generation's log that is just being written, at its beginning. Raises Rotten, OSError."""
+    reader = LogReader(disk, folder, generation)
+    try:
+        if (one := reader.record_at(0)) is None:
+            raise reader.rotten("its first record isn't as it was written")
+        return Found(generation, read_head(one.data), [], False, one.chain, one.behind, one.when, one.when)
+    finally:
+        reader.close()
+
+
 def check_mark(disk: Disk, folder: Path, generation: int, found: Found | None) -> None:
     """Raises LogBehind where a log ends before its mark, and Rotten where the mark is damaged."""
     name = f"{generation}.mark"
@@ -154,6 +180,10 @@ class BaseReader:
 
     def close(self) -> None:
         self.disk.close(self.file)
+
+    def length(self) -> int:
+        """Of the text, as the file has it."""
+        return self.disk.size(self.file) - BLOCK
 
     def pieces(self, wanted: str | None) -> Iterator[bytes]:
         """Its text, piece by piece; the last one is given only where all are as they were written. `wanted` is the sum that the log's head

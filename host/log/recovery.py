@@ -14,12 +14,17 @@ AHEAD = 6  # pieces on their way to a node, which fit into its pipe too: so it n
 def recovered(command: list[str], disk: Disk, folder: Path, found: Found) -> Node:
     """A node that is the standby whose log that is. Raises Rotten, also where a node takes something otherwise than it was written;
     LogBehind, OSError, NodeEnded."""
+    return remade(command, disk, folder, found)
+
+
+def remade(command: list[str], disk: Disk, folder: Path, found: Found, sink: Callable[[bytes], None] = lambda data: None) -> Node:
+    """The same; where that log stands on another one, `sink` gets the full checkpoint of its generation, piece by piece."""
     made = links(disk, folder, found)
     node = Node(command)
     try:
         fill(node, disk, folder, made[0])
         for one in made[1:]:
-            node = handed_over(node, command, one.head, one.generation)
+            node = handed_over(node, command, one.head, one.generation, sink if one is made[-1] else lambda data: None)
             feed_log(node, disk, folder, one)
     except Refused as refused:
         node.close()

@@ -4,8 +4,8 @@ from hashlib import blake2b
 from pathlib import Path
 
 from host.log.disk import Disk
-from host.log.format import (BASE_HEAD, BASE_MAGIC, BLOCK, FIRST, HEAD, HEADER, MAGIC, MARK, MARK_MAGIC, OVER, ROOM, SECTOR, TEXT, Head,
-                             chained, generation_of, seed_of, spelled, spelled_head)
+from host.log.format import (BASE_HEAD, BASE_MAGIC, BLOCK, FIRST, HEAD, HEADER, JOINED, MAGIC, MARK, MARK_MAGIC, OVER, ROOM, SECTOR, TEXT,
+                             Head, chained, generation_of, seed_of, spelled, spelled_head)
 from host.log.reading import Found
 
 RESERVED = 4 << 20  # bytes of room that a log takes at a time, so that a full disk is known before a text comes
@@ -20,6 +20,7 @@ class LogFile:
         self.seed = seed_of(f"{generation}.log")
         self.synced = self.reserved = 0
         self.is_over = False
+        self.is_joined = True  # whether who has it may go live by it
 
     def put(self, kind: int, number: int, data: bytes) -> None:
         when = time.time_ns() // 1_000_000
@@ -42,6 +43,12 @@ class LogFile:
     def append(self, number: int, text: bytes) -> None:
         self.put(TEXT, number, text)
 
+    def join(self) -> None:
+        """From here on it has all that is let out."""
+        if not self.is_joined:
+            self.put(JOINED, self.number, b"")
+            self.is_joined = True
+
     def over(self) -> None:
         """Nothing of it is ever loaded again."""
         if not self.is_over:
@@ -60,6 +67,7 @@ class LogFile:
 def begun(disk: Disk, folder: Path, generation: int, head: Head) -> LogFile:
     """A new generation's log, with its head, on the disk, its name too. What it stands on must be on the disk."""
     log = LogFile(disk, folder, generation, head.session, disk.create(folder / f"{generation}.log"))
+    log.is_joined = head.joined
     log.put(HEAD, 0, spelled_head(head))
     log.sync()
     disk.sync_folder(folder)
@@ -70,7 +78,7 @@ def continued(disk: Disk, folder: Path, found: Found) -> LogFile:
     """A log that was judged, to go on behind its end: what was torn goes first, so that it is never read again."""
     log = LogFile(disk, folder, found.generation, found.head.session, disk.open(folder / f"{found.generation}.log"))
     disk.cut(log.file, found.end)
-    log.chain, log.number = found.chain, found.number
+    log.chain, log.number, log.is_joined = found.chain, found.number, found.is_joined
     log.end = log.synced = log.reserved = found.end
     return log
 

@@ -51,17 +51,23 @@ def meanwhile(host: Host, verb: str, **fields: object) -> None:
 class Site:
     """`live` has the guest and `other` is its standby, or is to be. `mistake` is one of tests/power/mistakes.py."""
 
+    LOG = "standby"
+
     def __init__(self, room: Path, seed: int, guest: str = "counter", is_quick: bool = True, slow_ms: float = 12, mistake: str = "") -> None:
         self.rng, self.counts, self.saved = random.Random(seed), Counter(), room / "saved"
-        self.hosts = loopback_pair(room, GUESTS[guest][0], plain=True, log="standby", log_limit_mb=2 if is_quick else 64)
+        self.hosts = loopback_pair(room, GUESTS[guest][0], plain=True, log=self.LOG, log_limit_mb=2 if is_quick else 64)
         for one in self.hosts:
             one.program = ROOT / "tests" / "host_on_disk"
             one.environment = os.environ | {"REMUS_DISK": "Losing", "REMUS_QUICK": "1" if is_quick else "", "REMUS_SLOW_MS": str(slow_ms),
                                             "REMUS_MISTAKE": mistake}
         self.live, self.other = self.hosts
         self.client = GUESTS[guest][1](*self.hosts)
-        self.moments: list[Callable[[], None]] = [self.at_any_time, self.at_any_time, self.in_a_turn, self.in_a_turn, self.in_a_rejoin,
-                                                  self.in_a_drain, self.of_the_standby, self.of_the_live_host, self.going_alone]
+        self.moments: list[Callable[[], None]] = []
+        self.list_moments()
+
+    def list_moments(self) -> None:
+        self.moments = [self.at_any_time, self.at_any_time, self.in_a_turn, self.in_a_turn, self.in_a_rejoin, self.in_a_drain,
+                        self.of_the_standby, self.of_the_live_host, self.going_alone]
 
     def __enter__(self) -> Site:
         for one in self.hosts:
@@ -184,10 +190,10 @@ class Site:
         self.other.start()
 
 
-def played(room: Path, cuts: int, seed: int, **how: object) -> tuple[str | None, dict]:
+def played(room: Path, cuts: int, seed: int, kind: type[Site] = Site, **how: object) -> tuple[str | None, dict]:
     """A site whose power is cut so often: what is wrong, and what was counted."""
     begun = time.monotonic()
-    with Site(room, seed, **how) as site:
+    with kind(room, seed, **how) as site:
         wrong = None
         while site.counts["power cuts"] < cuts and wrong is None:
             wrong = site.round()
