@@ -10,17 +10,18 @@ from host.logs import Log
 from host.settings import Settings
 
 Value = str | int | float | None
-KEYS = ("guest", "steps_per_ms", "epoch_ms", "guest_address", "log")
+KEYS = ("guest", "steps_per_ms", "epoch_ms", "link_ms", "guest_address", "log")
 MAY_BE_LEFT_OUT = ("guest",)  # which only who boots it needs
 
 
 class Drift:
-    """`found` has by key the value here and the peer's, where they differ."""
+    """`peer` has by key what the peer said last that it is configured with, and `found` the value here and that, where they differ."""
 
     def __init__(self, settings: Settings, log: Log) -> None:
         self.settings, self.log = settings, log
         self.stamp: tuple[int, int] | None = None
         self.digest: str | None = None
+        self.peer: dict[str, Value] = {}
         self.found: dict[str, tuple[Value, Value]] = {}
         self.image()
 
@@ -36,9 +37,9 @@ class Drift:
         return self.digest
 
     def own(self) -> dict[str, Value]:
-        settings, epoch = self.settings, round(self.settings.epoch_ms * 1000, 3)
-        return {"guest": self.image(), "steps_per_ms": settings.steps_per_ms, "epoch_ms": int(epoch) if epoch.is_integer() else epoch,
-                "guest_address": settings.guest_address, "log": settings.log}
+        settings = self.settings
+        return {"guest": self.image(), "steps_per_ms": settings.steps_per_ms, "epoch_ms": milliseconds(settings.epoch_ms),
+                "link_ms": milliseconds(settings.link_ms), "guest_address": settings.guest_address, "log": settings.log}
 
     def message(self, session: bytes) -> bytes:
         """What the peer is told. It is a ping with a body, which a daemon that doesn't know it takes for a ping."""
@@ -52,13 +53,18 @@ class Drift:
             raise messages.Malformed("a ping whose body isn't JSON") from None
         if not isinstance(there, dict):
             raise messages.Malformed("a ping whose body isn't one JSON object")
-        here = self.own()
-        self.found = {key: (here[key], there[key]) for key in KEYS if key in there and is_a_value(there[key]) and here[key] != there[key]
-                      and not (key in MAY_BE_LEFT_OUT and None in (here[key], there[key]))}
+        here, self.peer = self.own(), {key: there[key] for key in KEYS if key in there and is_a_value(there[key])}
+        self.found = {key: (here[key], value) for key, value in self.peer.items()
+                      if here[key] != value and not (key in MAY_BE_LEFT_OUT and None in (here[key], value))}
         if self.found:
             differing = "; ".join(f"{key} is {shown(key, ours)} here and {shown(key, theirs)} at {peer}"
                                   for key, (ours, theirs) in self.found.items())
             self.log.warning(f"the two hosts are configured differently: {differing}")
+
+
+def milliseconds(seconds: float) -> int | float:
+    found = round(seconds * 1000, 3)
+    return int(found) if found.is_integer() else found
 
 
 def digest_of(guest: str) -> str | None:

@@ -174,8 +174,9 @@ class Kept:
         self.found = None
 
     def outlives(self, generation: int) -> None:
-        """This host is about to let out what no log has: the peer is told so when they meet, whatever becomes of this daemon."""
-        if self.keeps:
+        """This host is about to let out what no log has: the peer is told so when they meet, whatever becomes of this daemon. It may be the
+        peer alone that keeps logs."""
+        if self.keeps or self.host.meeting.drift.peer.get("log", "none") != "none":
             try:
                 self.host.state.outlive(self.host.life, generation)
             except OSError as error:
@@ -238,8 +239,8 @@ class Kept:
                                 "promote that; without one mend the disk, and restart this daemon: it goes on from its log")
 
     def told_to_peer(self) -> dict:
-        """What a greeting says besides: up to which generation logs of a life are stale, where this host keeps logs and knows of one."""
-        life, generation = self.host.state.outlives() if self.keeps else (None, 0)
+        """What a greeting says besides: up to which generation logs of a life are stale, where this host knows of one."""
+        life, generation = self.host.state.outlives()
         return {} if life is None else {"outlived_life": life, "outlived_generation": generation}
 
     # Before a promotion.
