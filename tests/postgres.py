@@ -67,6 +67,7 @@ class Postgres:
                  program: str = "") -> None:
         self.socket = socket.create_connection((address, port), timeout)
         self.came, self.status, self.warnings = b"", "", []
+        self.copied = bytearray()  # the rows of the copy that was asked last
         self.parameters: dict[str, str] = {}
         self.key = (0, 0)
         named = {"user": user, "database": "db", **({"application_name": program} if program else {})}
@@ -171,6 +172,8 @@ class Postgres:
                 now.columns, now.types = columns_of(body)
             elif kind == b"D":
                 now.rows.append(row_of(body, now.types, binary))
+            elif kind == b"d":
+                self.copied += body
             elif kind in (b"C", b"I", b"s"):
                 now.tag = body[:-1].decode() if kind == b"C" else kind.decode()
                 results.append(now)
@@ -184,6 +187,25 @@ class Postgres:
                 if refused:
                     raise refused
                 return results
+
+    # Copies.
+
+    def copy_in(self, sql: str, *pieces: bytes, failing: str | None = None) -> Result:
+        """Rows as bytes, in as many messages. `failing` says why the client gives up in the end."""
+        self.send(message(b"Q", string(sql)))
+        kind, body = self.receive()
+        if kind != b"G":
+            self.came = message(kind, body) + self.came
+            return self.results()[-1]
+        self.send(b"".join(message(b"d", piece) for piece in pieces) + (message(b"c") if failing is None else message(b"f", string(failing))))
+        return self.results()[-1]
+
+    def copy_out(self, sql: str) -> bytes:
+        """The rows of a table or a query as bytes."""
+        self.send(message(b"Q", string(sql)))
+        self.copied = bytearray()
+        self.results()
+        return bytes(self.copied)
 
     # Extended queries.
 

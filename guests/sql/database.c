@@ -47,6 +47,10 @@ int database_open(sqlite3 **database) {
         return said;
     sqlite3_db_config(*database, SQLITE_DBCONFIG_NO_CKPT_ON_CLOSE, 1, NULL);
     sqlite3_wal_hook(*database, has_committed, NULL);
+#ifdef FIRST_TOLD
+    /* What a library that wasn't built for this file system has to know. */
+    sqlite3_exec(*database, FIRST_TOLD, NULL, NULL, NULL);
+#endif
     return sqlite3_extended_result_codes(*database, 1);
 }
 

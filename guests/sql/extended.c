@@ -144,6 +144,8 @@ static enum outcome check_new(struct session *session, struct extended *extended
         return refuse(failure, "42P05", "a prepared statement of this name exists");
     if (!is_let_in(session, statement->kind))
         return refuse(failure, "25P02", "current transaction is aborted, commands ignored until end of transaction block");
+    if (statement->kind == COPY)
+        return refuse(failure, "0A000", "COPY is asked by a simple query");
     return ENDED;
 }
 
@@ -154,8 +156,11 @@ static enum outcome compile(struct session *session, struct prepared *prepared, 
         read_statement(rest, &prepared->statement);
     while (prepared->statement.kind == NOTHING && *(rest = prepared->statement.end) != '\0');
     enum outcome outcome = prepare(session, &prepared->statement, &prepared->compiled, &rest, failure);
+    prepared->statement.sql = NULL;
     if (outcome != ENDED)
         return outcome;
+    if (prepared->statement.more != NULL)
+        return refuse(failure, "0A000", "a prepared statement drops or empties one table alone");
     if (!is_blank(rest))
         return refuse(failure, "42601", "cannot insert multiple commands into a prepared statement");
     int given = (int)read_16(reader);

@@ -3,6 +3,7 @@
 #include <string.h>
 
 #include "clock.h"
+#include "copy.h"
 #include "extended.h"
 #include "messages.h"
 #include "password.h"
@@ -36,13 +37,16 @@ struct client {
     struct columns columns; /* of the statement that runs */
     uint32_t described;     /* where its columns stand in what is said */
     struct extended extended;
+    struct copy copy;
 };
 
 static struct client *of(struct session *session) { return (struct client *)session; }
 
 struct extended *extended_of(struct session *session) { return &of(session)->extended; }
 
-static void say_ready(struct session *session) {
+struct copy *copy_of(struct session *session) { return &of(session)->copy; }
+
+void say_ready(struct session *session) {
     uint32_t spare = session->out.spare;
     session->out.spare = 0;
     uint32_t at = message_begin(&session->out, 'Z');
@@ -104,6 +108,12 @@ static void is_over(struct session *session) {
 static const struct teller teller = {take_row, has_ended_query, has_warned, has_failed_query, is_over};
 
 static void ask(struct client *client, const char *text, uint32_t length) {
+    struct statement statement;
+    read_statement(text, &statement);
+    if (statement.kind == COPY && is_blank(statement.end)) {
+        copy_start(&client->session, &client->copy, statement.begin, (uint32_t)(text + length - statement.begin));
+        return;
+    }
     client->query.teller = &teller;
     client->query.answer = &client->session.out;
     query_start(&client->session, &client->query, text, length);
@@ -183,6 +193,8 @@ static void give_up(struct session *session, const struct failure *failure, int 
     session->was_block = is_in_block(session);
     if (client->query.text != NULL) {
         query_fail(session, &client->query, failure);
+    } else if (was_waiting && client->copy.stage != NO_COPY) {
+        copy_fail(session, &client->copy, failure);
     } else if (was_waiting) {
         has_failed(session, NOTHING);
         say_error(&session->out, "ERROR", failure->code, failure->why);
@@ -288,7 +300,7 @@ static enum outcome take_extended(struct client *client, uint8_t type, struct re
     case 'H': return ENDED;
     case 'd':
     case 'c':
-    case 'f': return ENDED; /* of COPY, which isn't here: what comes after its refusal */
+    case 'f': return ENDED; /* of COPY: what comes after it has failed */
     default: set_failure(failure, "08P01", "a message of a type that is not served here"); return FAILED;
     }
 }
@@ -308,6 +320,8 @@ static int take_message(struct client *client, const uint8_t *message, uint32_t 
             session->is_ending = 1;
     } else if (message[0] == 'X') {
         session->is_ending = 1;
+    } else if (client->copy.stage == TAKES_ROWS) {
+        copy_take(session, &client->copy, message[0], (const char *)message + 5, length - 5);
     } else if (message[0] == 'S') {
         outcome = take_sync(client, &failure);
     } else if (message[0] == 'Q' && !client->is_skipping) {
@@ -392,6 +406,8 @@ static void take(struct session *session) {
 static void go_on(struct session *session) {
     if (of(session)->query.text != NULL)
         query_go_on(session, &of(session)->query);
+    else if (of(session)->copy.stage != NO_COPY && of(session)->copy.stage != TAKES_ROWS)
+        copy_go_on(session, &of(session)->copy);
     if (!session->is_waiting)
         take(session);
 }
@@ -402,6 +418,7 @@ static void end_of_input(struct session *session) { session_fall_silent(session)
 static void drop(struct session *session) {
     struct client *client = of(session);
     query_drop(&client->query);
+    copy_drop(&client->copy);
     columns_drop(&client->columns);
     forget_all(&client->extended);
     scram_drop(&client->scram);

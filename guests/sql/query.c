@@ -91,6 +91,8 @@ static int next_statement(struct session *session, struct query *query) {
     read_statement(from, &query->statement);
     if (!is_let_in(session, query->statement.kind))
         return refuse(session, query, "25P02", "current transaction is aborted, commands ignored until end of transaction block");
+    if (query->statement.kind == COPY)
+        return refuse(session, query, "0A000", "COPY stands alone in its query, and is of PostgreSQL's protocol");
     int is_done = is_noted(session, &query->statement, &failure);
     if (failure.code != NULL)
         query->teller->warned(session, &failure);
@@ -115,7 +117,18 @@ static int next_statement(struct session *session, struct query *query) {
 /* Whether the statement belongs to a transaction with those after it. */
 static int is_with_others(const struct query *query) {
     enum kind kind = query->statement.kind;
-    return (kind == PLAIN || kind == SHOW) && !is_outside(&query->statement) && !is_blank(query->rest);
+    return (kind == PLAIN || kind == SHOW) && !is_outside(&query->statement) && (!is_blank(query->rest) || query->statement.more != NULL);
+}
+
+/* The next of several that SQLite is told in the statement's place. */
+static int go_on_with_more(struct session *session, struct query *query) {
+    struct failure failure;
+    drop_statement(query);
+    enum outcome outcome = prepare_more(session, &query->statement, &query->prepared, &failure);
+    if (outcome == ENDED)
+        return GOES_ON;
+    query->rest = query->statement.begin;
+    return comes_to(session, query, outcome, &failure);
 }
 
 static int run_statement(struct session *session, struct query *query) {
@@ -126,6 +139,8 @@ static int run_statement(struct session *session, struct query *query) {
     enum outcome outcome = run(session, query->prepared, query->answer, query->teller->take_row, &rows, &failure);
     if (outcome != ENDED)
         return comes_to(session, query, outcome, &failure);
+    if (query->statement.more != NULL)
+        return go_on_with_more(session, query);
     has_ended(session, query->statement.kind);
     return goes_on(session, query, rows);
 }

@@ -47,6 +47,7 @@ struct session *session_start(const struct service *service, void *connection) {
         return NULL;
     }
     session->later.most = MOST_ASKED + MOST_AHEAD;
+    session->spelled.most = 2 * MOST_ASKED;
     session->service = service;
     session->connection = connection;
     session->number = ++number;
@@ -113,6 +114,7 @@ static void forget(struct session *session) {
     text_drop(&session->in);
     text_drop(&session->out);
     text_drop(&session->later);
+    text_drop(&session->spelled);
     sqlite3_free(session);
 }
 
@@ -144,6 +146,10 @@ static void comes_to_rest(struct session *session) {
     }
     take_later(session);
     text_shrink(&session->in);
+    if (!session->is_waiting) {
+        text_cut(&session->spelled, 0);
+        text_shrink(&session->spelled);
+    }
     if (session->is_gone)
         want_turn(session);
     else if (session->is_silent)
@@ -205,6 +211,11 @@ static void wake(void) {
         }
 }
 
+/* Whether it leaves others no turn in the database: by the client's own transaction, or by one that its next message goes on with. */
+static int is_open(const struct session *session) {
+    return is_in_block(session) || (session->database != NULL && !sqlite3_get_autocommit(session->database));
+}
+
 static int has_lasted(uint64_t since, uint32_t most) { return most != 0 && clock_now() - since > most; }
 
 /* Stops what has lasted too long. */
@@ -216,7 +227,7 @@ static void look_at(struct session *session) {
         session_stop(session, TOOK_TOO_LONG);
     else if (session->is_waiting && session->waits_since != 0 && has_lasted(session->waits_since, settings->now[LOCK_TIMEOUT]))
         session_stop(session, WAITED_TOO_LONG);
-    else if (!session_is_busy(session) && is_in_block(session)
+    else if (!session_is_busy(session) && is_open(session)
              && has_lasted(session->rests_since, settings->now[IDLE_IN_TRANSACTION_SESSION_TIMEOUT]))
         session_stop(session, WAS_IDLE);
 }

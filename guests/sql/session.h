@@ -83,6 +83,7 @@ struct session {
     int is_failed;     /* a statement in it failed: only its end is taken */
     int has_savepoint;
     int was_block;     /* before the statement that runs */
+    struct text spelled; /* what SQLite is told in its place */
 };
 
 /* A session of a service, or NULL where there is no memory. */

@@ -245,8 +245,12 @@ void read_statement(const char *text, struct statement *statement) {
     }
     statement->kind = PLAIN;
     set_tag(statement, word, after);
-    if (!read_transaction(statement, word, after))
+    if (strcmp(word, "COPY") == 0) {
+        set(statement, COPY, NULL, word);
+        statement->is_counted = 1;
+    } else if (!read_transaction(statement, word, after)) {
         read_setting(statement, word, after);
+    }
 }
 
 int is_blank(const char *text) {

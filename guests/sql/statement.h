@@ -17,12 +17,15 @@ enum kind {
     SHOW,
     DISCARD,     /* what was prepared: DISCARD, DEALLOCATE ALL */
     DEALLOCATE,  /* one that was */
+    COPY,        /* rows to the client or from him */
+    PASSED,      /* there is nothing to do for it */
 };
 
 struct statement {
     enum kind kind;
     const char *begin, *end; /* of its text; `end` is after its semicolon, or at the text's end */
     const char *sql;         /* what SQLite is told in its place, or NULL */
+    const char *more;        /* and is told after that, or NULL */
     char tag[32];            /* how its end is told, but for a count of rows */
     int is_counted;          /* whether that has one */
     char name[64];           /* of the setting or of what was prepared */

@@ -3,6 +3,7 @@
 #include <string.h>
 
 #include "database.h"
+#include "dialect.h"
 #include "locks.h"
 
 #define COLLISION "the database is locked by another client's transaction, and this one has begun to read"
@@ -181,8 +182,24 @@ static const char *shown(const char *name) {
     return NULL;
 }
 
+/* Compiles what SQLite is told for a statement, and says what comes after it. */
+static enum outcome compile(struct session *session, struct statement *statement, sqlite3_stmt **prepared, const char **after,
+                            struct failure *failure) {
+    struct before before = before_of(session);
+    const char *sql = statement->sql == NULL ? statement->begin : statement->sql;
+    int said = session->is_told ? SQLITE_OK : database_tell(session->database);
+    session->is_told = said == SQLITE_OK;
+    *after = sql;
+    if (session->is_told)
+        said = sqlite3_prepare_v2(session->database, sql, -1, prepared, after);
+    if (is_busy(said))
+        return locked(session, &before, failure);
+    return said == SQLITE_OK ? ENDED : fails(session, said, failure);
+}
+
 enum outcome prepare(struct session *session, struct statement *statement, sqlite3_stmt **prepared, const char **rest,
                      struct failure *failure) {
+    const char *after = NULL;
     *prepared = NULL;
     *rest = statement->end;
     session->was_block = is_in_block(session);
@@ -190,19 +207,27 @@ enum outcome prepare(struct session *session, struct statement *statement, sqlit
         set_failure(failure, "42704", "there is no such setting here");
         return FAILED;
     }
-    if (statement->kind == NOTHING || statement->kind == SET || statement->kind == DISCARD || statement->kind == DEALLOCATE)
+    spell(statement, &session->spelled);
+    if (session->spelled.is_full) {
+        set_failure(failure, "53200", "out of memory");
+        return FAILED;
+    }
+    if (statement->kind == NOTHING || statement->kind == SET || statement->kind == DISCARD || statement->kind == DEALLOCATE
+        || statement->kind == PASSED)
         return ENDED;
-    struct before before = before_of(session);
-    const char *sql = statement->sql == NULL ? statement->begin : statement->sql, *after = sql;
-    int said = session->is_told ? SQLITE_OK : database_tell(session->database);
-    session->is_told = said == SQLITE_OK;
-    if (session->is_told)
-        said = sqlite3_prepare_v2(session->database, sql, -1, prepared, &after);
+    enum outcome outcome = compile(session, statement, prepared, &after, failure);
     if (statement->sql == NULL)
         *rest = after;
-    if (is_busy(said))
-        return locked(session, &before, failure);
-    return said == SQLITE_OK ? ENDED : fails(session, said, failure);
+    statement->more = statement->kind == PLAIN && statement->sql != NULL && !is_blank(after) ? after : NULL;
+    return outcome;
+}
+
+enum outcome prepare_more(struct session *session, struct statement *statement, sqlite3_stmt **prepared, struct failure *failure) {
+    const char *after = NULL;
+    statement->sql = statement->more;
+    enum outcome outcome = compile(session, statement, prepared, &after, failure);
+    statement->more = is_blank(after) ? NULL : after;
+    return outcome;
 }
 
 enum outcome run(struct session *session, sqlite3_stmt *prepared, struct text *answer, row_taker *take_row, int64_t *rows,
@@ -270,6 +295,26 @@ enum outcome begin_implicit(struct session *session, int is_eager) {
     session->is_implicit = !sqlite3_get_autocommit(session->database);
     if (session->is_implicit)
         return ENDED;
+    leave_no_news(session, &before);
+    return WAITS;
+}
+
+enum outcome begin_load(struct session *session) {
+    struct before before = before_of(session);
+    if (before.had != SQLITE_TXN_NONE || (before.was_open && session->has_savepoint))
+        return ENDED;
+    /* A transaction of the client's that has nothing yet begins anew, as one that writes. */
+    if (before.was_open)
+        tell(session, "COMMIT");
+    if (log_is_there())
+        log_empty(session->database);
+    tell(session, "BEGIN IMMEDIATE");
+    if (!sqlite3_get_autocommit(session->database)) {
+        session->is_implicit |= !before.was_open;
+        return ENDED;
+    }
+    if (before.was_open)
+        tell(session, "BEGIN");
     leave_no_news(session, &before);
     return WAITS;
 }

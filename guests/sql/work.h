@@ -33,6 +33,9 @@ enum outcome set_setting(struct session *session, const struct statement *statem
 enum outcome prepare(struct session *session, struct statement *statement, sqlite3_stmt **prepared, const char **rest,
                      struct failure *failure);
 
+/* Compiles the next of several that SQLite is told in a statement's place. */
+enum outcome prepare_more(struct session *session, struct statement *statement, sqlite3_stmt **prepared, struct failure *failure);
+
 /* Who gets the rows. */
 typedef void row_taker(struct session *session, sqlite3_stmt *prepared, int64_t number);
 
@@ -50,6 +53,10 @@ int is_let_in(const struct session *session, enum kind kind);
 
 /* Begins the transaction of several statements, unless one is open; `is_eager`: as one that writes, after others stood in its way. */
 enum outcome begin_implicit(struct session *session, int is_eager);
+
+/* Begins a transaction for many rows to come, or has the client's own be one that writes, where it has done nothing yet: it has the whole
+   log, unless somebody reads there. */
+enum outcome begin_load(struct session *session);
 
 /* Ends it. COLLIDES: it didn't come about, for want of room that is there where it is begun anew; `failure` says so. */
 enum outcome end_implicit(struct session *session, struct failure *failure);

@@ -12,14 +12,14 @@ from pathlib import Path
 
 ROOT = Path(__file__).resolve().parents[2]
 GUEST, HERE = ROOT / "guests/sql", Path(__file__).resolve().parent
+LARGE = ["-std=gnu11", "-O1", "-Wall", "-Wextra", "-Werror", '-DFIRST_TOLD="PRAGMA temp_store = MEMORY"', f"-I{HERE}", f"-I{GUEST}"]
 # A smaller disk than the guest's: the database has 1 MiB, the journal and the log half of that each.
-FLAGS = ["-std=gnu11", "-O1", "-Wall", "-Wextra", "-Werror", "-DDISK_SECTORS=4096", "-DJOURNAL_SECTOR=2048", "-DLOG_SECTOR=3072",
-         "-DFIRST_LOG_SECTOR=3584", f"-I{HERE}", f"-I{GUEST}"]
+FLAGS = [*LARGE, "-DDISK_SECTORS=4096", "-DJOURNAL_SECTOR=2048", "-DLOG_SECTOR=3072", "-DFIRST_LOG_SECTOR=3584"]
 FILES = ["vfs", "locks", "turns", "database"]
 SANITIZERS = ["-g", "-fsanitize=address,undefined", "-fno-sanitize-recover=all"]
 UNITS = ["digest", "locks", "statement", "request", "cksum"]
-SESSIONS = ["text", "log", "settings", "patterns", "functions", "digest", "password", "scram", "statement", "session", "work", "query",
-            "rows", "messages", "parameters", "types", "trigger", "extended", "postgres", "request", "table", "page", "door", "cksum", "pages", "dump", "whole",
+SESSIONS = ["text", "log", "settings", "patterns", "functions", "digest", "password", "scram", "statement", "lexer", "dialect", "session", "work", "query",
+            "rows", "messages", "parameters", "types", "trigger", "extended", "copy_words", "copy_rows", "copy", "postgres", "request", "table", "page", "door", "cksum", "pages", "dump", "whole",
             "http"]
 HOSTS = ["disk", "stacks"]  # what the guest has otherwise
 
@@ -51,6 +51,7 @@ class Built:
         self.link("power", [*FILES, *HOSTS, "power"])
         self.link_served("")
         self.link_served("secret")
+        self.link_large()
 
     def run(self, *words: object) -> None:
         subprocess.run([self.compiler, *FLAGS, *map(str, words)], check=True)
@@ -71,6 +72,13 @@ class Built:
         self.link(name, [*FILES, *SESSIONS, *HOSTS, "served", f"{name}_key"])
         checked = [f"{part}_checked" for part in [*FILES, *SESSIONS, *HOSTS, "fed"]]
         self.link(name.replace("served", "fed"), [*checked, f"{name}_key"], *self.checks)
+
+    def link_large(self) -> None:
+        """`served_large`, which has a disk as large as the guest's."""
+        of_disk = [*FILES, *HOSTS, "served"]
+        sources = [next(place / f"{part}.c" for place in (HERE, GUEST) if (place / f"{part}.c").exists()) for part in of_disk]
+        others = [self.room / f"{part}.o" for part in [*SESSIONS, "served_key"]]
+        subprocess.run([self.compiler, *LARGE, "-o", self.room / "served_large", *sources, *others, self.library], check=True)
 
     def sanitizers(self) -> list[str]:
         """What makes a program of this compiler's watch its own memory, where it has that."""

@@ -72,6 +72,9 @@ EXTENDED = [parse_part("s", "SELECT $1 || $2, 7", 2), bind_part("", "s", b"abc",
             typed(SYNC)]
 PORTALS = [typed(message(b"Q", string("BEGIN"))), parse_part("r", "VALUES(1),(2),(3)", 0), bind_part("p", "r"), execute_part("p", 1),
            typed(SYNC), execute_part("p", 1), typed(message(b"C", b"Pp\0")), typed(SYNC)]
+TABLE = typed(message(b"Q", string("CREATE TABLE IF NOT EXISTS t(a INTEGER, b TEXT); DELETE FROM t")))
+TUPLES = typed(message(b"d", b"PGCOPY\n\xff\r\n\0", struct.pack(">IIHiqi", 0, 0, 2, 8, 7, 1), b"x\xff\xff"), (16, 4), (20, 4), (24, 2), (26, 4),
+               (38, 4), (43, 2))
 # What a client says at each stage; whether it is let in only with a password.
 STAGES: dict[str, tuple[str, list[Part]]] = {
     "the start": ("", [Part(START, (0, 4))]),
@@ -84,8 +87,14 @@ STAGES: dict[str, tuple[str, list[Part]]] = {
     "simple queries": ("", [Part(START, (0, 4)), typed(message(b"Q", string("SELECT 7"))), typed(message(b"Q", string("")))]),
     "extended queries": ("", [Part(START, (0, 4)), *EXTENDED]),
     "portals": ("", [Part(START, (0, 4)), *PORTALS]),
-    "a copy that was refused": ("", [Part(START, (0, 4)), typed(message(b"Q", string("COPY t FROM STDIN"))),
+    "a copy that was refused": ("", [Part(START, (0, 4)), typed(message(b"Q", string("COPY nowhere FROM STDIN"))),
                                      typed(message(b"d", b"1\t2\n")), typed(message(b"c")), typed(message(b"f", string("no")))]),
+    "a copy": ("", [Part(START, (0, 4)), TABLE, typed(message(b"Q", string("COPY t FROM STDIN"))), typed(message(b"d", b"1\t2\n3")),
+                    typed(message(b"d", b"\t4\n")), typed(message(b"c")), typed(message(b"Q", string("COPY t TO STDOUT")))]),
+    "a copy in CSV": ("", [Part(START, (0, 4)), TABLE, typed(message(b"Q", string("COPY t(a, b) FROM STDIN WITH (FORMAT csv, HEADER)"))),
+                           typed(message(b"d", b'a,b\n"1 ""')), typed(message(b"d", b'",\n')), typed(message(b"f", string("no")))]),
+    "a copy in binary": ("", [Part(START, (0, 4)), TABLE, typed(message(b"Q", string("COPY t FROM STDIN (FORMAT binary)"))), TUPLES,
+                              typed(message(b"c")), typed(message(b"Q", string("COPY t TO STDOUT (FORMAT binary)")))]),
 }
 
 
