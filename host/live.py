@@ -115,7 +115,7 @@ class Live:
         return self.mode == PAIRED or self.own is not None and self.is_fetched
 
     def why_stands(self, now: float) -> str | None:
-        """For whom the guest, or all that it sends, waits for a while, and what lets it go on; None where it doesn't."""
+        """For whom the guest, or what it sends, waits since a while, and what lets it go on; None where it doesn't."""
         if not self.pending or now - self.acked_at < STANDS or self.standby is None or self.is_stopped:
             return None
         if self.is_linked and len(self.pending) < MOST_PENDING:

@@ -6,7 +6,7 @@ import time
 
 from agent import parameters
 from agent.cluster import Cluster
-from agent.daemon import PATIENCE_SECONDS, Daemon, Declined, Silent
+from agent.daemon import AGAIN_SECONDS, ANSWER_SECONDS, END_SECONDS, PATIENCE_SECONDS, Daemon, Declined, Silent
 from agent.life import SCORE_FIRST, SCORE_FULL, SCORE_LIVE, SCORE_WAITS, Life, alone_in, holds_up_frozen, is_left_half_filled, may_boot
 from agent.life import stale, stalls, why_not, wrong_at
 from agent.ocf import DEGRADED, GENERIC, INSTALLED, NOT_RUNNING, PROMOTED, SUCCESS, UNIMPLEMENTED, Failure, meta, run, warn
@@ -14,6 +14,7 @@ from agent.ocf import DEGRADED, GENERIC, INSTALLED, NOT_RUNNING, PROMOTED, SUCCE
 TAKE_SECONDS = 5  # for a demotion before a stop
 AS_STANDBY = ("Unpromoted", "Slave")  # what Pacemaker calls an instance, to whose monitor it says so
 TWO_LIVE_SECONDS = 5  # longer than from one monitor to the next
+HUNG_SECONDS = 30  # from a failed action to the last of those that follow from it
 LOST_SECONDS = 10  # nobody has the guest for so long: it isn't just on its way from one host to the other
 
 START_IT = "start Pacemaker there; or, once that host is surely off, 'remus-host ctl promote' here"
@@ -28,6 +29,7 @@ class Pair:
         self.daemon, self.cluster = Daemon(self.resource), Cluster(self.resource)
         self.asked = self.daemon.started + ".given-up"  # is there while this host has given its standby up
         self.gone = self.daemon.started + ".gone"  # the standby that the last monitor saw gone
+        self.hung = self.daemon.started + ".hung"  # which process said nothing to an action that failed for it
         self.lost = self.daemon.started + ".lost"  # is there, and as old, while nobody has the guest
         self.two_live = self.daemon.started + ".two-live"  # is there, and as old, while this host is live by hand, and another one too
         self.other_lives = self.daemon.started + ".other-lives"  # is there since a promote was refused for that
@@ -35,20 +37,30 @@ class Pair:
 
     # What the daemon says.
 
-    def status(self) -> dict | None:
+    def status(self, seconds: float = ANSWER_SECONDS) -> dict | None:
         """The daemon's status; None where there is no daemon. One that is slow isn't dead: unless another host has the guest too, it is
         waited for longer."""
         try:
-            return self.daemon.status()
+            return self.daemon.status(seconds)
         except Silent as silent:
             if self.cluster.best_score_elsewhere() >= SCORE_FULL:
+                self.note(self.hung, self.daemon.identity())
                 raise
             warn(f"{silent.reason}. No other host has the guest, so it is waited for")
             return self.daemon.status(PATIENCE_SECONDS)
 
-    def running(self) -> dict:
+    def has_hung(self) -> bool:
+        """Whether an action failed just before since this daemon said nothing. Another host has the guest, so this one will be ended."""
+        try:
+            with open(self.hung, encoding="utf-8") as file:
+                is_recent = 0 <= time.time() - os.fstat(file.fileno()).st_mtime < HUNG_SECONDS
+                return is_recent and file.read() == self.daemon.identity() != "" and self.cluster.best_score_elsewhere() >= SCORE_FULL
+        except (OSError, ValueError):
+            return False
+
+    def running(self, seconds: float = ANSWER_SECONDS) -> dict:
         """The status of a daemon that has to be there."""
-        status = self.status()
+        status = self.status(seconds)
         if status is None:
             self.daemon.refuse_deaf()
             raise Failure(NOT_RUNNING, "remus-host doesn't run")
@@ -106,12 +118,11 @@ class Pair:
         publishing = threading.Thread(target=self.cluster.publish, args=(None,))
         publishing.start()
         try:
-            self.take_guest()
-            self.daemon.stop()
+            self.daemon.stop(0 if self.take_guest() else END_SECONDS)
         finally:
             publishing.join()
         self.say_wrong([])
-        for note in (self.lost, self.two_live, self.other_lives):
+        for note in (self.hung, self.lost, self.two_live, self.other_lives):
             forget(note)
         return SUCCESS
 
@@ -125,14 +136,18 @@ class Pair:
             warn(f"a changed parameter isn't taken: {failure.reason}")
         return SUCCESS
 
-    def take_guest(self) -> None:
-        """A live daemon that is told to end would have its standby go live by itself; but who is promoted Pacemaker decides."""
+    def take_guest(self) -> bool:
+        """A live daemon that is told to end would have its standby go live by itself; but who is promoted Pacemaker decides. Answers
+        whether the daemon hangs still, so that it needn't be waited for."""
+        has_hung = self.has_hung()
         try:
-            status = self.daemon.status()
+            status = self.daemon.status(AGAIN_SECONDS if has_hung else ANSWER_SECONDS)
             if status is not None and status["role"] == "live":
                 self.daemon.ask("demote", TAKE_SECONDS)
         except Failure as failure:
             warn(failure.reason)
+            return has_hung and isinstance(failure, Silent)
+        return False
 
     # Monitor.
 
@@ -377,8 +392,8 @@ class Pair:
         self.name_life(status)
 
     def has_stopped_other(self) -> bool:
-        """Whether Pacemaker had the other instance stopped just before, by its agent or by fencing, which it orders so. Then what the daemon
-        heard of its peer before says nothing. After all else, as a demote, the daemon looks for itself whether that is live."""
+        """Whether Pacemaker had the other instance stopped just before, by its agent or by fencing, which it orders so. Then what the
+        daemon heard of its peer before says nothing. After all else, as a demote, the daemon looks for itself whether that is live."""
         return any(node != self.cluster.node for node in meta("notify_stop_uname").split())
 
     def boot(self, booting: str) -> None:
@@ -394,7 +409,7 @@ class Pair:
 
     def demote(self) -> int:
         self.cluster.publish(None)
-        if self.running()["role"] == "live":
+        if self.running(AGAIN_SECONDS if self.has_hung() else ANSWER_SECONDS)["role"] == "live":
             answer = self.daemon.command("demote")
             syslog.syslog(syslog.LOG_INFO, "demoted: the standby has all" if answer.get("handed_on") else "demoted: the guest is kept here")
         return SUCCESS

@@ -12,6 +12,7 @@ from agent.ocf import GENERIC, INSTALLED, NOT_RUNNING, Failure, parameter, warn
 
 ANSWER_SECONDS = 3  # a daemon that says nothing for so long hangs, where another host has the guest too
 PATIENCE_SECONDS = 9  # and where none has, after so many more
+AGAIN_SECONDS = 0.3  # for one that has hung just now, and may have woken since
 CHANGE_SECONDS = 15  # promote, demote, alone: the daemon's own limits are shorter
 END_SECONDS = 2  # from SIGTERM to SIGKILL
 KILL_SECONDS = 15
@@ -93,6 +94,11 @@ class Daemon:
                 self.keep({"pid": pid, "since": runs_since(pid), "control": self.configured_control(), "config": self.config})
         except (OSError, Failure) as failure:
             warn(f"the daemon that runs can't be noted: {failure}")
+
+    def identity(self) -> str:
+        """Of the process that was started; empty where none was."""
+        note = self.note()
+        return f"{note['pid']} {note['since']}" if note.get("since") else ""
 
     def forget(self) -> None:
         try:
@@ -230,13 +236,13 @@ class Daemon:
         if self.process() is not None:
             raise Silent(GENERIC, "remus-host runs, but doesn't listen")
 
-    def stop(self) -> None:
-        """Ends the daemon, its node, and whatever else is of its session; fails where one of them doesn't end."""
+    def stop(self, seconds: float = END_SECONDS) -> None:
+        """Ends the daemon, by itself within so many seconds, its node, and whatever else is of its session; fails where one doesn't end."""
         pid = self.process()
         if pid is not None:
             session = pid if session_of(pid) == pid else None  # in another one there may be others
             tell(pid, signal.SIGTERM)
-            wait(lambda: [pid] if runs_since(pid) else [], END_SECONDS)
+            wait(lambda: [pid] if runs_since(pid) else [], seconds)
             left = wait(lambda: self.kill(pid, session), KILL_SECONDS)
             if left:
                 raise Failure(GENERIC, f"the processes {left} of remus-host don't end")

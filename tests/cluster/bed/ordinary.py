@@ -104,6 +104,24 @@ def slow(row, times: int) -> None:
         goes_on(row, life, live, begin)
 
 
+def hung(row, times: int) -> None:
+    """The daemon's process hangs (SIGSTOP) for good, at the live host, which its standby takes over from, and at the standby."""
+    bed = row.bed
+    for row.tries in range(1, times + 1):
+        for whose in ("live", "standby"):
+            live, standby = bed.pair()
+            with row.clients() as clients:
+                pid, begin = bed.pid_of_daemon(live if whose == "live" else standby), time.time()
+                os.kill(pid, signal.SIGSTOP)
+                bed.until(lambda: not Path(f"/proc/{pid}").exists(), 40, "the end of a daemon that hangs")
+                row.note(f"{whose} host's daemon: ended after", time.time() - begin)
+                bed.pair()
+            row.note(f"{whose} host's daemon: paused", clients.paused(begin))
+            row.expect(bed.power.since(begin, "asked") is None, "a host was fenced")
+            row.expect((bed.live() == standby) == (whose == "live"), "the wrong host is live")
+            row.check(clients)
+
+
 def promote(row, times: int) -> None:
     """The live host's power is cut, and the promote of the only checkpoint fails, since the daemon there hangs, or the agent is killed."""
     bed = row.bed

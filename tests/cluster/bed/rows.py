@@ -391,7 +391,8 @@ ROWS = {
     "link": (link, {"bank": 1}), "no-fencing": (no_fencing, {"bank": 1}), "move": (move, {"bank": 2}), "upgrade": (upgrade, {"bank": 1}),
     "refused": (ordinary.refused, {"web": 1}), "parameter": (ordinary.parameter, {"web": 1}), "slow": (ordinary.slow, {"web": 1}),
     "promote": (ordinary.promote, {"web": 1}), "by-hand": (ordinary.by_hand, {"web": 1}), "snapshot": (ordinary.snapshot, {"web": 1}),
-    "stale": (ordinary.stale, {"web": 1}), "returns": (ordinary.returns, {"web": 1}), "certificates": (ordinary.certificates, {"web": 1}),
+    "stale": (ordinary.stale, {"web": 1}), "returns": (ordinary.returns, {"web": 1}), "hung": (ordinary.hung, {"web": 1}),
+    "certificates": (ordinary.certificates, {"web": 1}),
 }
 
 
