@@ -21,10 +21,12 @@ def reading(path: str | Path) -> BinaryIO:
 
 
 class WholeFile:
-    """A file that comes into its place once it is whole, for its owner's eyes alone. Whoever is killed meanwhile leaves nothing behind;
-    where the file system has no files without a name, one file `.NAME.part`, which the next one replaces. All raise OSError."""
+    """A file that comes into its place once it is whole, for its owner's eyes alone unless its mode says otherwise. Whoever is killed
+    meanwhile leaves nothing behind; where the file system has no files without a name, one file `.NAME.part`, which the next one replaces.
+    All raise OSError."""
 
-    def __init__(self, path: str | Path) -> None:
+    def __init__(self, path: str | Path, mode: int = 0o600) -> None:
+        self.mode = mode
         self.name, parent = os.path.basename(path), os.path.dirname(os.path.abspath(path))
         self.beside = f".{self.name}.part"
         self.folder: int | None = os.open(parent, os.O_RDONLY | os.O_DIRECTORY)
@@ -40,12 +42,12 @@ class WholeFile:
     def begun(self, parent: str) -> tuple[bool, int]:
         """Whether the file has a name already, and its descriptor."""
         try:
-            return False, os.open(parent, NAMELESS | os.O_WRONLY, 0o600)
+            return False, os.open(parent, NAMELESS | os.O_WRONLY, self.mode)
         except OSError as error:
             if error.errno not in NO_NAMELESS:
                 raise
         self.unlink()
-        return True, os.open(self.beside, os.O_WRONLY | os.O_CREAT | os.O_EXCL, 0o600, dir_fd=self.folder)
+        return True, os.open(self.beside, os.O_WRONLY | os.O_CREAT | os.O_EXCL, self.mode, dir_fd=self.folder)
 
     def check_place(self) -> None:
         """Nothing but a regular file is replaced."""
@@ -55,7 +57,7 @@ class WholeFile:
             except FileNotFoundError:
                 continue
             if not stat.S_ISREG(mode):
-                raise OSError(None, "what stands there isn't a regular file, and isn't replaced")
+                raise OSError(None, "what stands there isn't a regular file, and isn't replaced", name)
 
     def place(self) -> None:
         """It is whole: it comes into its place, and is on the disk when this returns."""
@@ -90,6 +92,16 @@ class WholeFile:
             self.unlink()
         os.close(self.folder)
         self.folder = None
+
+
+def written(path: str | Path, data: bytes, mode: int = 0o600) -> None:
+    """Puts a file with these bytes in a place, or leaves what is there; it is on the disk when this returns. Raises OSError."""
+    whole = WholeFile(path, mode)
+    try:
+        whole.file.write(data)
+        whole.place()
+    finally:
+        whole.discard()
 
 
 class Place:

@@ -5,8 +5,9 @@ import subprocess
 import tempfile
 from pathlib import Path
 
-from host.state import written
+from host.files import written
 
+SHOWN = 0o644  # the mode of a certificate, which anybody may read
 MISSING = "the program openssl isn't there: on Debian, apt-get install openssl"
 # A certificate begins and ends by no host's clock: it is pinned, and given up by hand.
 BEGINS, ENDS = "20200101000000Z", "99991231235959Z"
@@ -94,7 +95,7 @@ def renew(folder: str | Path, name: str) -> Path:
         key.unlink(missing_ok=True)  # without its certificate nobody has it
         written_as(folder, f"{name}.next", name)
     if new.read_bytes() not in used:
-        written(crt, used + new.read_bytes())
+        written(crt, used + new.read_bytes(), SHOWN)
     return crt
 
 
@@ -103,7 +104,7 @@ def switch(folder: str | Path, name: str) -> Path:
     OSError."""
     folder = Path(folder)
     crt, key = folder / f"{name}.next.crt", folder / f"{name}.next.key"
-    written(folder / f"{name}.crt", crt.read_bytes())
+    written(folder / f"{name}.crt", crt.read_bytes(), SHOWN)
     if key.exists():
         os.replace(key, folder / f"{name}.key")
     crt.unlink()

@@ -7,6 +7,8 @@ import time
 from pathlib import Path
 from typing import BinaryIO
 
+from host.files import written
+
 
 class State:
     """Raises OSError where the folder can't be used."""
@@ -29,7 +31,6 @@ class State:
         """Writes down that this life was here; it is on the disk when this returns."""
         written(self.file, json.dumps({"life": life, "generation": generation, "how": how, "at": time.time()}).encode() + b"\n")
 
-
     def outlive(self, life: str, generation: int) -> None:
         """Writes down that this host lets out what no log of this life has that is of this generation or an earlier one."""
         written(self.outlived, json.dumps({"life": life, "generation": generation}).encode() + b"\n")
@@ -48,23 +49,3 @@ def opened_alone(path: Path) -> BinaryIO:
     file = os.open(path, os.O_RDWR | os.O_CREAT | os.O_CLOEXEC, 0o600)
     os.fchmod(file, 0o600)
     return open(file, "wb")
-
-
-def written(path, data):
-    """Puts a file in a place as a whole, or leaves what is there. Raises OSError."""
-    path = Path(path)
-    beside = path.with_name(f".{path.name}.{os.getpid()}")
-    try:
-        with open(beside, "wb") as file:
-            file.write(data)
-            file.flush()
-            os.fsync(file.fileno())
-        os.replace(beside, path)
-    except OSError:
-        beside.unlink(missing_ok=True)
-        raise
-    folder = os.open(path.parent, os.O_RDONLY)
-    try:
-        os.fsync(folder)
-    finally:
-        os.close(folder)
