@@ -51,6 +51,7 @@ class Settings:
     log: str = "none"
     log_on_failure: str = "hold"
     log_limit_mb: int = 256
+    log_keep: float = 0.0
     log_format: str = field(default_factory=lambda: "journal" if "JOURNAL_STREAM" in os.environ else "text")
     log_level: str = "info"
 
@@ -157,6 +158,17 @@ def log(value: object) -> str:
     return one_of("both", "standby", "none")(value)
 
 
+UNITS = {"s": 1, "m": 60, "h": 3600, "d": 86400}
+
+
+def duration(value: object) -> float:
+    """Seconds."""
+    found = re.fullmatch(r"(\d{1,6})([smhd])", value) if isinstance(value, str) else None
+    if found is None:
+        raise Mistake("must be a number of seconds, minutes, hours or days, as 90s, 30m, 24h or 7d; 0s is none")
+    return float(found[1]) * UNITS[found[2]]
+
+
 def ipv4(value):
     try:
         return str(ipaddress.IPv4Address(text(value)))
@@ -192,6 +204,7 @@ KEYS = {
     "log": (log, "which hosts keep a log of the guest in the state folder: both, standby (while a host is one), or none"),
     "log_on_failure": (one_of("hold", "go-on"), "what a live host does whose own log fails: hold what the guest sends, or go-on without"),
     "log_limit_mb": (count(1_000_000), "mebibytes after which a log is begun anew, beside the full checkpoint"),
+    "log_keep": (duration, "how long what the log doesn't need any more is kept, as 24h or 7d, so that the guest can be had as it was"),
     "log_format": (one_of("text", "json", "journal"), "of what the daemon says: text, json or journal"),
     "log_level": (one_of("debug", "info", "warning", "error"), "debug, info, warning or error"),
 }

@@ -47,13 +47,19 @@ class File:
         self.data, self.kept, self.dirty = found, bytearray(found), set()
 
 
+def moved(names: dict[Path, File], path: Path, to: Path) -> None:
+    """A file has another name, or a folder with all its files."""
+    for one in [one for one in names if one.is_relative_to(path)]:
+        names[to / one.relative_to(path)] = names.pop(one)
+
+
 class SimulatedDisk:
     """The power fails in the call after `left` more. `tallied` counts calls."""
 
     def __init__(self, rng: random.Random) -> None:
         self.rng, self.left, self.tallied = rng, None, 0
         self.by_name, self.kept, self.changes = {}, {}, []  # names as programs see them, and as the disk has them; what was done since
-        self.handles, self.capacity = [], None
+        self.handles, self.capacity, self.changed = [], None, {}  # the last: when files of such names were written
 
     def touched(self) -> None:
         self.tallied += 1
@@ -63,20 +69,26 @@ class SimulatedDisk:
                 raise PowerCut
 
     def power_fails(self) -> None:
-        for name, change in self.changes:
+        for path, change in self.changes:
             if self.rng.random() < 0.5:
-                continue
-            if isinstance(change, tuple):
-                self.kept.pop(change[0], None)
-                self.kept[name] = change[1]
-            elif change is None:
-                self.kept.pop(name, None)
-            else:
-                self.kept[name] = change
+                self.apply(path, change)
         self.by_name = dict(self.kept)
         self.changes, self.handles, self.left = [], [], None
         for file in dict.fromkeys(self.by_name.values()):
             file.lose(self.rng)
+
+    def apply(self, path: Path, change: object) -> None:
+        """What was done to a name is on the disk."""
+        if isinstance(change, tuple):
+            if change[1] is None:
+                moved(self.kept, change[0], path)
+            else:
+                self.kept.pop(change[0], None)
+                self.kept[path] = change[1]
+        elif change is None:
+            self.kept.pop(path, None)
+        else:
+            self.kept[path] = change
 
     # What host/log/disk.py has.
 
@@ -84,7 +96,9 @@ class SimulatedDisk:
         pass
 
     def names(self, folder: Path) -> list[str]:
-        return [path.name for path in self.by_name]
+        """Those of folders too, which are there once a file is in them."""
+        within = f"{folder}/"
+        return list({path.removeprefix(within).partition("/")[0]: None for path in map(str, self.by_name) if path.startswith(within)})
 
     def create(self, path: Path) -> int:
         self.touched()
@@ -130,18 +144,33 @@ class SimulatedDisk:
         self.touched()
 
     def rename(self, path: Path, to: Path) -> None:
+        """A file, or a folder with all its files."""
         self.touched()
-        self.by_name[to] = self.by_name.pop(path)
-        self.changes.append((to, (path, self.by_name[to])))
+        file = self.by_name.get(path)
+        moved(self.by_name, path, to)
+        self.changes.append((to, (path, file)))
 
     def remove(self, path: Path) -> None:
         self.touched()
         if self.by_name.pop(path, None) is not None:
             self.changes.append((path, None))
 
-    def sync_folder(self, folder: Path) -> None:
+    def remove_folder(self, folder: Path) -> None:
         self.touched()
-        self.kept, self.changes = dict(self.by_name), []
+
+    def changed_at(self, path: Path) -> float:
+        return self.changed.get(path.name, 0.0)
+
+    def sync_folder(self, folder: Path) -> None:
+        """Its names are on the disk; what was moved from one folder to another is, once either is synced."""
+        self.touched()
+        left = []
+        for path, change in self.changes:
+            if folder == path.parent or isinstance(change, tuple) and folder == change[0].parent:
+                self.apply(path, change)
+            else:
+                left.append((path, change))
+        self.changes = left
         self.touched()
 
     def room(self, folder: Path) -> int:

@@ -1,4 +1,6 @@
 """`remus-host log`: what the log of a state folder holds, from its files, whether a daemon runs or not."""
+import argparse
+import datetime
 import sys
 import time
 from pathlib import Path
@@ -6,14 +8,16 @@ from pathlib import Path
 from host import settings
 from host.log.disk import Disk
 from host.log.export import export
-from host.log.format import LogBehind, Rotten, generation_of
+from host.log.format import LogBehind, Rotten
+from host.log.history import NotThere, as_of, course_of, generations, latest, outlined
 from host.log.kept import at
-from host.log.reading import Found, check_all, is_log, judged_log, newest
+from host.log.past import rooms
+from host.log.reading import Found, check_all, newest
 from host.node import NodeEnded, Refused
 
 WHOLE, DAMAGED, BAD = range(3)
 VERBS = {"list": "says what each log in the state folder holds", "check": "reads all of it, with all sums",
-         "export": "makes a snapshot of the guest as it was at the end of the latest log, which may be over"}
+         "export": "makes a snapshot of the guest as it was at the end of the latest log, which may be over, or at a moment"}
 TRIES, PAUSE = 3, 0.1  # what a daemon is just writing may look damaged
 
 
@@ -25,26 +29,50 @@ def add(kinds) -> None:
         reader = verbs.add_parser(verb, help=said, description=said)
         reader.add_argument("--config", metavar="FILE", help="the configuration, which names the state folder")
         reader.add_argument("--state", metavar="FOLDER", help="the state folder")
+        reader.add_argument("--copy", metavar="FOLDER", help="a copy of the folder log of a state folder, which may have been made while a "
+                            "daemon ran")
+    reader.add_argument("--at", type=moment, metavar="TIME", help="in UTC, as 2031-05-03T12:00:00Z")
     reader.add_argument("file", metavar="FILE", help="the snapshot")
 
 
-def run(plan) -> int:
-    folder = Path(key_of(plan, "state")) / "log"
-    for left in reversed(range(TRIES)):
+def moment(text: str) -> int:
+    """Milliseconds of the wall clock."""
+    try:
+        found = datetime.datetime.fromisoformat(text)
+    except ValueError:
+        raise argparse.ArgumentTypeError(f"{text!r} isn't a time as 2031-05-03T12:00:00Z") from None
+    return int((found if found.tzinfo else found.replace(tzinfo=datetime.timezone.utc)).timestamp() * 1000)
+
+
+def folder_of(plan: argparse.Namespace) -> Path:
+    return Path(plan.copy) if plan.copy is not None else Path(key_of(plan, "state")) / "log"
+
+
+def run(plan: argparse.Namespace) -> int:
+    for _ in range(TRIES - 1):
         try:
-            print(*(exported(folder, plan) if plan.verb == "export" else said(folder, plan.verb == "check")), sep="\n")
-            return WHOLE
-        except (Rotten, LogBehind) as error:
-            if not left:
-                print(f"remus-host: the log in {folder} is refused, {type(error).__name__}: {error}", file=sys.stderr)
-                return DAMAGED
+            return put(plan)
+        except (Rotten, LogBehind, FileNotFoundError):
             time.sleep(PAUSE)
-        except OSError as error:
-            print(f"remus-host: {error.filename or getattr(plan, 'file', folder)}: {error.strerror or error}", file=sys.stderr)
-            return DAMAGED
-        except (NodeEnded, Refused) as error:
-            print(f"remus-host: the node ended, or refused: {error}", file=sys.stderr)
-            return DAMAGED
+    try:
+        return put(plan)
+    except (Rotten, LogBehind) as error:
+        why = f"the log in {folder_of(plan)} is refused, {type(error).__name__}: {error}"
+    except NotThere as error:
+        why = str(error)
+    except OSError as error:
+        why = f"{error.filename or getattr(plan, 'file', folder_of(plan))}: {error.strerror or error}"
+    except (NodeEnded, Refused) as error:
+        why = f"the node ended, or refused: {error}"
+    print(f"remus-host: {why}", file=sys.stderr)
+    return DAMAGED
+
+
+def put(plan: argparse.Namespace) -> int:
+    """Raises Rotten, LogBehind, NotThere, OSError, NodeEnded, Refused."""
+    lines, status = exported(plan) if plan.verb == "export" else said(plan)
+    print(*lines, sep="\n")
+    return status
 
 
 def key_of(plan, key: str):
@@ -57,34 +85,53 @@ def key_of(plan, key: str):
         sys.exit(BAD)
 
 
-def exported(folder: Path, plan) -> list[str]:
-    """Raises Rotten, LogBehind, OSError, NodeEnded, Refused."""
-    disk = Disk()
-    for generation in logs_of(disk, folder):
-        if (found := judged_log(disk, folder, generation)) is not None:
-            count = export(disk, folder, found, key_of(plan, "node"), plan.file)
-            return [f"{plan.file}: {count} bytes, the guest at checkpoint {found.number} of generation {generation}, {at(found.ended)}"]
-    raise OSError(None, f"no log is in {folder}")
+def exported(plan: argparse.Namespace) -> tuple[list[str], int]:
+    """Raises NotThere, Rotten, LogBehind, OSError, NodeEnded, Refused."""
+    disk, folder, is_copy = Disk(), folder_of(plan), plan.copy is not None
+    course = latest(disk, folder, is_copy) if plan.at is None else as_of(disk, folder, plan.at, is_copy)
+    count, last = export(disk, course, key_of(plan, "node"), plan.file), course.last
+    return [f"{plan.file}: {count} bytes, the guest at checkpoint {last.number} of generation {last.generation}, {at(last.ended)}"], WHOLE
 
 
-def logs_of(disk: Disk, folder: Path) -> list[int]:
-    """The generations that have a log, the latest first."""
-    return sorted((generation_of(name) for name in disk.names(folder) if is_log(name)), reverse=True)
+def said(plan: argparse.Namespace) -> tuple[list[str], int]:
+    """A line for each log, the latest generation first, and one for each guest. A copy's log that isn't whole is one that is damaged, where
+    it is checked. Raises Rotten, LogBehind, OSError."""
+    disk, folder, is_copy, checks = Disk(), folder_of(plan), plan.copy is not None, plan.verb == "check"
+    counts, lines, spans, status = None if is_copy else newest(disk, folder), [], {}, WHOLE
+    for room in rooms(disk, folder):
+        for generation in generations(disk, room):
+            try:
+                found, more = looked_at(disk, room, generation, checks, is_copy, room == folder)
+            except (Rotten, LogBehind) as error:
+                if not is_copy:
+                    raise
+                lines.append(f"generation {generation}: passed over, {type(error).__name__}: {error}")
+                status = DAMAGED if checks else WHOLE
+                continue
+            if found is not None:
+                how = "of the past" if room != folder else "over" if found.is_over else "the one that counts" if is_it(found, counts) else "an earlier one"
+                lines.append(described(found, how) + more)
+                begun, ended = spans.get(found.head.life, (found.begun, found.ended))
+                spans[found.head.life] = min(begun, found.begun), max(ended, found.ended)
+    lines += [f"the guest of life {life} can be had as it was from {at(begun)} to {at(ended)}" for life, (begun, ended) in spans.items()]
+    return lines or [f"no log is in {folder}"], DAMAGED if is_copy and not spans else status
 
 
-def said(folder: Path, checks: bool) -> list[str]:
-    """A line for each log, the latest generation first. Raises Rotten, LogBehind, OSError."""
-    disk = Disk()
-    counts, lines = newest(disk, folder), []
-    for generation in logs_of(disk, folder):
-        found = judged_log(disk, folder, generation)
-        if found is not None:
-            lines.append(described(found, counts is not None and found.generation == counts.generation) +
-                         (f", {check_all(disk, folder, found)} bytes of texts, all as written" if checks else ""))
-    return lines or [f"no log is in {folder}"]
+def looked_at(disk: Disk, room: Path, generation: int, checks: bool, is_copy: bool, is_first: bool) -> tuple[Found | None, str]:
+    """A log, and what is said of it besides. One of the past is read as a whole only where it is to be checked. Raises Rotten, LogBehind,
+    OSError."""
+    if not (checks or is_copy or is_first):
+        return outlined(disk, room, generation), ""
+    if (course := course_of(disk, room, generation, is_copy)) is None:
+        return None, ""
+    return course.last, f", {check_all(disk, room, course.logs)} bytes of texts, all as written" if checks else ""
 
 
-def described(found: Found, counts: bool) -> str:
-    how = "over" if found.is_over else "the one that counts" if counts else "an earlier one"
+def is_it(found: Found, counts: Found | None) -> bool:
+    """Whether it is the log that counts; it may have grown meanwhile."""
+    return counts is not None and found.generation == counts.generation
+
+
+def described(found: Found, how: str) -> str:
     return (f"generation {found.generation}, checkpoints 0 to {found.number}, {at(found.begun)} to {at(found.ended)}, "
             f"life {found.head.life}: {how}")

@@ -62,6 +62,14 @@ class Disk:
     def remove(self, path: Path) -> None:
         path.unlink(missing_ok=True)
 
+    def remove_folder(self, folder: Path) -> None:
+        """One that has no files."""
+        folder.rmdir()
+
+    def changed_at(self, path: Path) -> float:
+        """When it was written last, in seconds of the wall clock."""
+        return path.stat().st_mtime
+
     def sync_folder(self, folder: Path) -> None:
         handle = os.open(folder, os.O_RDONLY)
         try:

@@ -1,24 +1,22 @@
 """A snapshot of what a log holds: the guest as it was at the log's end, also where the log is over."""
-from pathlib import Path
-
 from host.files import WholeFile
 from host.log.disk import Disk
-from host.log.reading import Found
-from host.log.recovery import full_text, recovered
+from host.log.history import Course
+from host.log.recovery import full_text, node_of
 from host.node import Refused
 from host.snapshot import Header, check_replaced
 
 
-def export(disk: Disk, folder: Path, found: Found, command: list[str], path: str) -> int:
+def export(disk: Disk, course: Course, command: list[str], path: str) -> int:
     """Puts the snapshot in its place as a whole, and answers its bytes. Raises Rotten, LogBehind, OSError, NodeEnded, Refused."""
     check_replaced(path)
     whole, node, header = WholeFile(path), None, Header()
     try:
         whole.file.write(header.room())
-        node = recovered(command, disk, folder, found)
+        node = node_of(command, disk, course.room, course.logs)
         node.ask("golive")
         node.ask("protect")
-        for data in full_text(node, found.head.pages):
+        for data in full_text(node, course.last.head.pages):
             header.take(data)
             whole.file.write(data)
         whole.file.seek(0)

@@ -10,6 +10,7 @@ from pathlib import Path
 
 from host.log.disk import Disk
 from host.log.format import Head, LogBehind, Rotten
+from host.log.past import Past
 from host.log.reading import Found, links, newest
 from host.log.writer import BaseFile, LogFile, Mark, begun, continued, tidy
 
@@ -20,10 +21,12 @@ Job = tuple[Callable[..., None], ...]
 
 class Keeper:
     """`reached` is (session, generation, number): of that attachment all up to there is on the disk, and `is_joined` whether that is all that
-    was let out. `failed` is why nothing more is written, if so. The methods of the loop give what is to be done, and answer at once."""
+    was let out. `failed` is why nothing more is written, if so. The methods of the loop give what is to be done, and answer at once. What
+    isn't needed any more is kept for so many seconds."""
 
-    def __init__(self, disk: Disk, folder: Path) -> None:
+    def __init__(self, disk: Disk, folder: Path, keep: float = 0) -> None:
         self.disk, self.folder = disk, Path(folder)
+        self.past = Past(disk, self.folder, keep) if keep else None
         self.log: LogFile | None = None
         self.base: BaseFile | None = None
         self.mark: Mark | None = None
@@ -165,7 +168,7 @@ class Keeper:
     def resume_log(self, found: Found) -> None:
         """What is left of other logs, since the power failed while it was removed, goes."""
         self.continue_log(found)
-        tidy(self.disk, self.folder, {one.generation for one in links(self.disk, self.folder, found)})
+        self.tidy({one.generation for one in links(self.disk, self.folder, found)})
 
     def continue_log(self, found: Found) -> None:
         self.log = continued(self.disk, self.folder, found)
@@ -178,9 +181,15 @@ class Keeper:
             self.base.discard()
             self.base = None
         self.end_what_is_here()
-        tidy(self.disk, self.folder, {self.log.generation} if self.log is not None else set())
+        self.tidy(self.that_end())
         self.base = BaseFile(self.disk, self.folder, generation, most)
         self.disk.sync(self.base.file)  # so that a disk that fails is found before anybody waits for it
+
+    def that_end(self) -> set[int]:
+        """The generations that stay until another one's head is on the disk."""
+        if self.log is None:
+            return set()
+        return {self.log.generation} if self.past is None else self.past.chain(self.log.generation)
 
     def write_base(self, data: bytes, is_first: bool) -> None:
         if is_first:
@@ -201,8 +210,11 @@ class Keeper:
 
     def begin_log(self, generation: int, head: Head) -> None:
         base, self.base = self.base, None
+        if self.past is not None and f"{generation}.log" in self.disk.names(self.folder):  # of another life, whose files go under these names
+            self.close_log()
+            self.tidy(set(), f"{generation}.base.new")
         self.next_log(generation, head._replace(base=base.finish()))
-        tidy(self.disk, self.folder, {generation})
+        self.tidy({generation})
         self.reached, self.is_joined = (head.session, generation, 0), head.joined
 
     def turn_log(self, generation: int, head: Head) -> None:
@@ -219,10 +231,14 @@ class Keeper:
 
     def tidy_behind_base(self, generation: int, kept: set[int]) -> None:
         if f"{generation}.base" in self.disk.names(self.folder):
-            tidy(self.disk, self.folder, kept)
+            self.tidy(kept)
 
     def write_joined(self) -> None:
         self.log.join()
+
+    def tidy(self, kept: set[int], but: str = "") -> None:
+        """What is of other generations than these goes; the file of the last name stays."""
+        tidy(self.disk, self.folder, kept, self.past, but)
 
     def forget(self, *names: str) -> None:
         """What is left under these names is of another life, of a generation with the same number."""

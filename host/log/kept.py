@@ -91,7 +91,7 @@ class Kept:
     def __init__(self, host: "Daemon", disk: Disk) -> None:
         self.host, self.disk, self.folder = host, disk, host.state.folder / "log"
         self.keeps, self.is_both = host.settings.log != "none", host.settings.log == "both"
-        self.keeper, self.has_said_failed = Keeper(disk, self.folder), False
+        self.keeper, self.has_said_failed = self.new_keeper(), False
         self.limit = host.settings.log_limit_mb * MEBIBYTE
         self.found: Found | None = None  # the log that this host is a standby from, until its live host has it again
         self.parts: list[Part] = []  # on which that stands
@@ -99,6 +99,9 @@ class Kept:
         self.backoff, self.prepared_at = Backoff(), 0.0
         self.is_low, self.looked_at, self.failures = False, 0.0, 0
         self.peer: dict | None = None  # what the peer said last of what it holds
+
+    def new_keeper(self) -> Keeper:
+        return Keeper(self.disk, self.folder, self.host.settings.log_keep)
 
     # At the start.
 
@@ -153,7 +156,7 @@ class Kept:
         why = self.keeper.failed or f"the disk took longer than {WAIT:.0f} s"
         self.failures += 1
         self.keeper.leave()
-        self.keeper = Keeper(self.disk, self.folder)
+        self.keeper = self.new_keeper()
         return f"the log in {self.folder} failed, {why}"
 
     def has_failed(self, now: float) -> None:

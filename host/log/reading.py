@@ -32,10 +32,11 @@ class Found(NamedTuple):
 
 
 class LogReader:
-    """The file of a generation's log, open to be read. Raises OSError."""
+    """The file of a generation's log, open to be read. Of a copy that was made while it was written something may be there that was written
+    later than what isn't. Raises OSError."""
 
-    def __init__(self, disk: Disk, folder: Path, generation: int) -> None:
-        self.disk, self.generation, self.name = disk, generation, f"{generation}.log"
+    def __init__(self, disk: Disk, folder: Path, generation: int, is_copy: bool = False) -> None:
+        self.disk, self.generation, self.name, self.is_copy = disk, generation, f"{generation}.log", is_copy
         self.seed = seed_of(self.name)
         self.file = disk.open_to_read(folder / self.name)
         self.size = disk.size(self.file)
@@ -91,6 +92,24 @@ class LogReader:
         self.check_torn(place)
         return None if head is None else Found(self.generation, head, places, is_over, chain, place, begun, ended, is_joined)
 
+    def outlined(self) -> Found | None:
+        """The same by the records' first sectors alone: when they were written, and how many there are, unless it is damaged. Raises
+        Rotten."""
+        if (first := self.record_at(0)) is None or first.kind != HEAD:
+            return None
+        place, last, places, is_over = first.behind, 0, [], False
+        while (found := self.header_at(place)) is not None and found[2] <= self.size:
+            kind, _, behind = found
+            if kind == TEXT:
+                places.append(place)
+            is_over |= kind == OVER
+            place, last = behind, place
+        return Found(self.generation, read_head(first.data), places, is_over, b"", place, first.when, self.when_at(last))
+
+    def when_at(self, place: int) -> int:
+        """When the record that begins there was written, in milliseconds of the wall clock."""
+        return HEADER.unpack_from(self.disk.read(self.file, SECTOR, place), 4)[4]
+
     def follows(self, one: Record, place: int, chain: bytes, number: int, is_over: bool) -> None:
         """Whether a record is the next one. Raises Rotten."""
         wanted = chained(chain, one.kind, one.generation, one.number, one.when, one.synced, one.data)
@@ -113,8 +132,14 @@ class LogReader:
                     continue
                 if not is_as_written(sector, self.seed, place // SECTOR):
                     raise self.rotten(f"the sector at {place} is neither as it was written nor as it was before")
-                if place % BLOCK == 0 and sector[4:8] == MAGIC and HEADER.unpack_from(sector, 4)[6] > end:
+                if self.is_copy or place % BLOCK or sector[4:8] != MAGIC:
+                    continue
+                if HEADER.unpack_from(sector, 4)[6] > end:
                     raise self.rotten(f"the record at {end} was synced, and isn't there")
+
+    def times(self, found: Found) -> Iterator[int]:
+        """When each of the texts of a log that was judged was written, in milliseconds of the wall clock."""
+        return (self.when_at(place) for place in found.places)
 
     def texts(self, found: Found) -> Iterator[bytes]:
         """The texts of a log that was judged. Raises Rotten where one isn't there any more."""
@@ -124,14 +149,15 @@ class LogReader:
             yield one.data
 
 
-def judged_log(disk: Disk, folder: Path, generation: int) -> Found | None:
-    """A generation's log, beside its mark. Raises Rotten, LogBehind, OSError."""
-    reader = LogReader(disk, folder, generation)
+def judged_log(disk: Disk, folder: Path, generation: int, is_copy: bool = False) -> Found | None:
+    """A generation's log, beside its mark, which says nothing of a copy. Raises Rotten, LogBehind, OSError."""
+    reader = LogReader(disk, folder, generation, is_copy)
     try:
         found = reader.judged()
     finally:
         reader.close()
-    check_mark(disk, folder, generation, found)
+    if not is_copy:
+        check_mark(disk, folder, generation, found)
     return found
 
 
@@ -219,13 +245,14 @@ def newest(disk: Disk, folder: Path) -> Found | None:
     return None
 
 
-def links(disk: Disk, folder: Path, found: Found) -> list[Found]:
+def links(disk: Disk, folder: Path, found: Found, is_copy: bool = False) -> list[Found]:
     """The logs on which one stands, it last, from that on which has its base in the folder. Each but the last has the texts that count of
     it. Raises Rotten, LogBehind, OSError."""
     names, made = disk.names(folder), [found]
     while (earliest := made[0]).head.stands_on is not None and f"{earliest.generation}.base" not in names:
         generation, number = earliest.head.stands_on
-        before = judged_log(disk, folder, generation) if f"{generation}.log" in names and generation < earliest.generation else None
+        is_there = f"{generation}.log" in names and generation < earliest.generation
+        before = judged_log(disk, folder, generation, is_copy) if is_there else None
         if before is None or before.head.life != found.head.life:
             raise Rotten(f"{generation}.log isn't there, and {earliest.generation}.log stands on it")
         if before.number < number:
@@ -247,9 +274,9 @@ def texts(disk: Disk, folder: Path, found: Found, has_base: bool) -> Iterator[by
                 one.close()
 
 
-def check_all(disk: Disk, folder: Path, found: Found) -> int:
-    """Reads all of a log that was judged, and of what it stands on, and answers the bytes of its texts. Raises as those do."""
-    return sum(len(part) for place, one in enumerate(links(disk, folder, found)) for part in texts(disk, folder, one, place == 0))
+def check_all(disk: Disk, folder: Path, made: list[Found]) -> int:
+    """Reads all of a log that was judged, and of what it stands on, and answers the bytes of its texts. Raises Rotten, OSError."""
+    return sum(len(part) for place, one in enumerate(made) for part in texts(disk, folder, one, place == 0))
 
 
 def is_log(name: str) -> bool:

@@ -14,12 +14,12 @@ AHEAD = 6  # pieces on their way to a node, which fit into its pipe too: so it n
 def recovered(command: list[str], disk: Disk, folder: Path, found: Found) -> Node:
     """A node that is the standby whose log that is. Raises Rotten, also where a node takes something otherwise than it was written;
     LogBehind, OSError, NodeEnded."""
-    return remade(command, disk, folder, found)
+    return node_of(command, disk, folder, links(disk, folder, found))
 
 
-def remade(command: list[str], disk: Disk, folder: Path, found: Found, sink: Callable[[bytes], None] = lambda data: None) -> Node:
-    """The same; where that log stands on another one, `sink` gets the full checkpoint of its generation, piece by piece."""
-    made = links(disk, folder, found)
+def node_of(command: list[str], disk: Disk, folder: Path, made: list[Found], sink: Callable[[bytes], None] = lambda data: None) -> Node:
+    """The same, of a log beside those on which it stands, it last; where it stands on another one, `sink` gets the full checkpoint of its
+    generation, piece by piece."""
     node = Node(command)
     try:
         fill(node, disk, folder, made[0])
@@ -28,7 +28,7 @@ def remade(command: list[str], disk: Disk, folder: Path, found: Found, sink: Cal
             feed_log(node, disk, folder, one)
     except Refused as refused:
         node.close()
-        raise Rotten(f"{found.generation}.log: the node refuses what it holds: {refused}") from None
+        raise Rotten(f"{made[-1].generation}.log: the node refuses what it holds: {refused}") from None
     except BaseException:
         node.close()
         raise

@@ -7,8 +7,8 @@ from pathlib import Path
 from host.log.catch_up import PacedBase
 from host.log.disk import Disk
 from host.log.format import LogBehind, Rotten
-from host.log.reading import head_of
-from host.log.recovery import remade
+from host.log.reading import head_of, links
+from host.log.recovery import node_of
 from host.node import NodeEnded, Refused
 
 PRIORITY = 19
@@ -20,7 +20,7 @@ def main(words: list[str], disk: Disk) -> int:
     threading.Thread(target=ends_with_daemon, daemon=True).start()
     try:
         base = PacedBase(disk, folder, generation, most)
-        remade(command, disk, folder, head_of(disk, folder, generation), base.write).close()
+        node_of(command, disk, folder, links(disk, folder, head_of(disk, folder, generation)), base.write).close()
         base.finish()
         return 0
     except (OSError, Rotten, LogBehind, NodeEnded, Refused) as error:

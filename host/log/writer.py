@@ -6,6 +6,7 @@ from pathlib import Path
 from host.log.disk import Disk
 from host.log.format import (BASE_HEAD, BASE_MAGIC, BLOCK, FIRST, HEAD, HEADER, JOINED, MAGIC, MARK, MARK_MAGIC, OVER, ROOM, SECTOR, TEXT,
                              Head, chained, generation_of, seed_of, spelled, spelled_head)
+from host.log.past import Past
 from host.log.reading import Found
 
 RESERVED = 4 << 20  # bytes of room that a log takes at a time, so that a full disk is known before a text comes
@@ -140,13 +141,23 @@ class Mark:
         self.disk.close(self.file)
 
 
-def tidy(disk: Disk, folder: Path, kept: set[int]) -> None:
-    """Removes what is of other generations than these, whose bases and heads are on the disk, their names too. Marks go first, so that none
-    is left without its log, and then the earliest generation, so that none is left without a later one that says that its life is over."""
-    others = [name for name in disk.names(folder) if generation_of(name) not in (None, *kept)]
+def tidy(disk: Disk, folder: Path, kept: set[int], past: Past | None = None, but: str = "") -> None:
+    """Removes what is of other generations than these, whose bases and heads are on the disk, their names too; what `past` keeps goes there.
+    The file of the last name stays.
+    Marks go first, so that none is left without its log, and then the earliest generation, so that none is left without a later one that
+    says that its life is over."""
+    others = [name for name in disk.names(folder) if generation_of(name) not in (None, *kept) and name != but]
     marks = [name for name in others if name.endswith(".mark")]
     rest = [name for name in others if name not in marks]
-    for names in (marks, *([name for name in rest if generation_of(name) == of] for of in sorted(set(map(generation_of, rest))))):
-        for name in names:
-            disk.remove(folder / name)
-        disk.sync_folder(folder)
+    remove(disk, folder, marks)
+    for of in sorted(set(map(generation_of, rest))):
+        names = [name for name in rest if generation_of(name) == of]
+        remove(disk, folder, names if past is None else past.take(of, names))
+    if past is not None:
+        past.prune()
+
+
+def remove(disk: Disk, folder: Path, names: list[str]) -> None:
+    for name in names:
+        disk.remove(folder / name)
+    disk.sync_folder(folder)
