@@ -207,86 +207,6 @@ static void spell_alter(struct statement *statement, struct text *to) {
     set_tag(statement, "ALTER TABLE");
 }
 
-/* Whether a list in parentheses has two expressions. */
-static int has_two(const char *at, const char *end) {
-    int depth = 0, count = 1;
-    while (at < end) {
-        const char *after = after_quoted(at);
-        depth += after != at ? 0 : *at == '(' ? 1 : *at == ')' ? -1 : 0;
-        count += after == at && *at == ',' && depth == 1;
-        at = after != at ? after : at + 1;
-    }
-    return count == 2;
-}
-
-#define IS_WITHIN(n) "(step > 0 AND " n " <= last OR step < 0 AND " n " >= last)"
-
-/* The numbers of FROM generate_series(..) have the name that stands behind it. Answers what is after them. */
-static const char *spell_numbers(const char *begun, const char *arguments, struct text *to) {
-    static const char *const others[] = {"WHERE", "ORDER", "GROUP", "LIMIT", "JOIN", "CROSS", "LEFT", "INNER", "NATURAL", "ON", "UNION",
-                                         "EXCEPT", "INTERSECT", "HAVING", "WINDOW", "RIGHT", "FULL", "OFFSET", "RETURNING", NULL};
-    const char *end = after_parentheses(arguments), *at = end;
-    char name[MOST_NAME] = "generate_series", column[MOST_NAME];
-    int is_other = 0;
-    if (end == NULL)
-        return begun;
-    takes(&at, "AS");
-    for (int i = 0; others[i] != NULL; i++) {
-        const char *after = at;
-        is_other |= takes(&after, others[i]);
-    }
-    if (is_other || !takes_name(&at, name))
-        at = end;
-    strcpy(column, name);
-    const char *listed = at;
-    if (takes(&listed, "(") && takes_name(&listed, column) && takes(&listed, ")"))
-        at = listed;
-    add(to, "(WITH RECURSIVE g(n, last, step) AS (SELECT ");
-    add_bytes(to, arguments + 1, (uint32_t)(end - arguments - 2));
-    add(to, has_two(arguments, end) ? ", 1" : "");
-    add(to, " UNION ALL SELECT n + step, last, step FROM g WHERE " IS_WITHIN("n + step") ") SELECT n AS ");
-    add_quoted(to, column);
-    add(to, " FROM g WHERE " IS_WITHIN("n") ") AS ");
-    add_quoted(to, name);
-    return at;
-}
-
-static void spell_series(struct statement *statement, struct text *to) {
-    const char *at = statement->begin, *kept = at, *after;
-    int is_source = 0;
-    while (at < statement->end) {
-        const char *begun = after_blanks(at);
-        after = after_quoted(begun);
-        at = begun;
-        if (is_source && takes(&at, "generate_series") && *after_blanks(at) == '(') {
-            add_bytes(to, kept, (uint32_t)(begun - kept));
-            kept = at = spell_numbers(begun, after_blanks(at), to);
-            is_source = 0;
-            if (at == begun) {
-                text_cut(to, 0);
-                return;
-            }
-            continue;
-        }
-        at = begun;
-        is_source = takes(&at, "FROM") || takes(&at, "JOIN");
-        if (!is_source && after != begun)
-            at = after;
-        for (; !is_source && after == begun && is_in_word(*at); at++)
-            ;
-        at += at == begun;
-    }
-    add_bytes(to, kept, (uint32_t)(statement->end - kept));
-}
-
-static int has_series(const struct statement *statement) {
-    static const char word[] = "generate_series";
-    for (const char *at = statement->begin; at + sizeof word - 1 < statement->end; at++)
-        if (sqlite3_strnicmp(at, word, (int)sizeof word - 1) == 0)
-            return 1;
-    return 0;
-}
-
 void spell(struct statement *statement, struct text *to) {
     static const struct {
         const char *word;
@@ -302,8 +222,6 @@ void spell(struct statement *statement, struct text *to) {
             forms[i].spell(statement, to);
             break;
         }
-    if (to->length == 0 && statement->kind == PLAIN && has_series(statement))
-        spell_series(statement, to);
     if (to->length == 0)
         return;
     add_bytes(to, "", 1);

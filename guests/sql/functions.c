@@ -231,13 +231,10 @@ static void do_current_setting(sqlite3_context *context, int count, sqlite3_valu
     const char *name = (const char *)sqlite3_value_text(values[0]);
     char shown[MOST_SHOWN];
     (void)count;
-    int setting = name == NULL ? -1 : setting_of(name);
-    if (setting < 0) {
+    if (name == NULL || !setting_show(&session->settings, name, shown))
         sqlite3_result_error(context, "there is no such setting here", -1);
-        return;
-    }
-    setting_show(&session->settings, setting, shown);
-    sqlite3_result_text(context, shown, -1, SQLITE_TRANSIENT);
+    else
+        sqlite3_result_text(context, shown, -1, SQLITE_TRANSIENT);
 }
 
 int functions_make(struct session *session) {

@@ -2,9 +2,11 @@
 
 #include <string.h>
 
+#include "arrays.h"
+#include "catalog_queries.h"
 #include "messages.h"
 
-enum { SAW_INTEGER = 1, SAW_FLOAT = 2, SAW_TEXT = 4, SAW_BLOB = 8 };
+enum { SAW_INTEGER = 1, SAW_FLOAT = 2, SAW_TEXT = 4, SAW_BLOB = 8, SAW_TEXTS = 16, SAW_NUMBERS = 32 };
 
 /* Whether a declared type has a word in it, whatever its letters. */
 static int has_word(const char *declared, const char *word) {
@@ -31,7 +33,15 @@ uint32_t type_of_declaration(const char *declared) {
     return has_word(declared, "BOOL") ? INT8 : TEXT;
 }
 
-uint32_t declared_type(sqlite3_stmt *prepared, int column) { return type_of_declaration(sqlite3_column_decltype(prepared, column)); }
+/* Columns of the catalog have types of their own. */
+uint32_t declared_type(sqlite3_stmt *prepared, int column) {
+    const char *declared = sqlite3_column_decltype(prepared, column);
+    if (declared == NULL || strncmp(declared, "pg_", 3) != 0)
+        return type_of_declaration(declared);
+    return strcmp(declared, TRUTH) == 0 ? BOOL : strcmp(declared, NUMBERS) == 0 ? INT2_ARRAY : TEXT_ARRAY;
+}
+
+static int is_of_catalog(uint32_t type) { return type == BOOL || type == INT2_ARRAY || type == TEXT_ARRAY; }
 
 void columns_start(struct columns *columns, sqlite3_stmt *prepared, const uint8_t *binary, const uint32_t *told) {
     static const uint8_t none[64];
@@ -46,12 +56,17 @@ void columns_drop(struct columns *columns) { text_drop(&columns->seen); }
 uint32_t type_of_column(const struct columns *columns, sqlite3_stmt *prepared, int column) {
     if (columns->told != NULL)
         return columns->told[column];
+    if (is_of_catalog(declared_type(prepared, column)))
+        return declared_type(prepared, column);
     switch (columns->seen.bytes[column]) {
     case 0: return declared_type(prepared, column);
     case SAW_INTEGER: return declared_type(prepared, column) == FLOAT8 ? FLOAT8 : INT8;
     case SAW_FLOAT:
     case SAW_INTEGER | SAW_FLOAT: return FLOAT8;
     case SAW_BLOB: return BYTEA;
+    case SAW_TEXTS:
+    case SAW_TEXTS | SAW_NUMBERS: return TEXT_ARRAY;
+    case SAW_NUMBERS: return INT8_ARRAY;
     default: return TEXT;
     }
 }
@@ -93,6 +108,8 @@ static void say_binary(struct text *out, sqlite3_stmt *prepared, struct columns 
     } else if (wanted == FLOAT8 && (type == SQLITE_FLOAT || type == SQLITE_INTEGER)) {
         add_32(out, 8);
         add_64(out, bits_of(sqlite3_column_double(prepared, column)));
+    } else if (wanted == BOOL) {
+        say_bytes(out, sqlite3_column_int64(prepared, column) ? "\1" : "\0", 1);
     } else if (wanted == BYTEA) {
         const void *bytes = sqlite3_column_blob(prepared, column);
         say_bytes(out, bytes, (uint32_t)sqlite3_column_bytes(prepared, column));
@@ -104,13 +121,19 @@ static void say_binary(struct text *out, sqlite3_stmt *prepared, struct columns 
     }
 }
 
-static void say_value(struct text *out, sqlite3_stmt *prepared, struct columns *columns, int column) {
+/* What is seen of a column in a value of a type. */
+static uint8_t bit_of(sqlite3_stmt *prepared, int column, int type) {
     static const uint8_t bits[] = {[SQLITE_INTEGER] = SAW_INTEGER, [SQLITE_FLOAT] = SAW_FLOAT, [SQLITE_TEXT] = SAW_TEXT,
                                    [SQLITE_BLOB] = SAW_BLOB, [SQLITE_NULL] = 0};
+    unsigned kind = type == SQLITE_TEXT ? sqlite3_value_subtype(sqlite3_column_value(prepared, column)) : 0;
+    return kind == ARRAY_OF_TEXTS ? SAW_TEXTS : kind == ARRAY_OF_NUMBERS ? SAW_NUMBERS : bits[type];
+}
+
+static void say_value(struct text *out, sqlite3_stmt *prepared, struct columns *columns, int column) {
     int type = sqlite3_column_type(prepared, column);
     uint8_t *seen = (uint8_t *)columns->seen.bytes + column, before = *seen;
     int is_binary = columns->binary != NULL && columns->binary[column];
-    *seen |= bits[type];
+    *seen |= bit_of(prepared, column, type);
     if (type == SQLITE_NULL) {
         add_32(out, 0xffffffff);
     } else if (is_binary) {
@@ -120,6 +143,8 @@ static void say_value(struct text *out, sqlite3_stmt *prepared, struct columns *
         say_binary(out, prepared, columns, column, type);
     } else if (type == SQLITE_BLOB) {
         say_blob(out, prepared, column);
+    } else if (type == SQLITE_INTEGER && declared_type(prepared, column) == BOOL) {
+        say_bytes(out, sqlite3_column_int64(prepared, column) ? "t" : "f", 1);
     } else {
         say_text(out, prepared, column);
     }
@@ -137,7 +162,7 @@ void say_row(struct text *out, sqlite3_stmt *prepared, struct columns *columns) 
     message_end(out, at);
 }
 
-static int size_of(uint32_t type) { return type == INT8 || type == FLOAT8 ? 8 : 0xffff; }
+static int size_of(uint32_t type) { return type == INT8 || type == FLOAT8 ? 8 : type == BOOL ? 1 : 0xffff; }
 
 uint32_t say_columns(struct text *out, sqlite3_stmt *prepared, const struct columns *columns) {
     uint32_t at = message_begin(out, 'T');

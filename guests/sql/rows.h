@@ -7,7 +7,10 @@
 #include "text.h"
 
 /* Types, by their numbers in PostgreSQL's catalog. */
-enum { BOOL = 16, BYTEA = 17, INT8 = 20, INT2 = 21, INT4 = 23, TEXT = 25, OID = 26, FLOAT4 = 700, FLOAT8 = 701, NUMERIC = 1700 };
+enum {
+    BOOL = 16, BYTEA = 17, INT8 = 20, INT2 = 21, INT4 = 23, TEXT = 25, OID = 26, FLOAT4 = 700, FLOAT8 = 701, INT2_ARRAY = 1005,
+    TEXT_ARRAY = 1009, INT8_ARRAY = 1016, NUMERIC = 1700,
+};
 
 /* What is known of the columns of an answer. */
 struct columns {

@@ -76,6 +76,7 @@ struct session {
     enum stop stop;
     struct settings settings;
     int is_told;       /* the connection knows what it may do */
+    int has_catalog;   /* and has PostgreSQL's catalog */
     int wants_room;    /* the log was full: it is to begin anew before this writes again */
     int had_room;      /* it has, for what was asked last */
     /* Its transaction. */

@@ -86,7 +86,7 @@ void settings_end(struct settings *settings, int is_kept) {
     }
 }
 
-void setting_show(const struct settings *settings, int setting, char shown[MOST_SHOWN]) {
+static void show(const struct settings *settings, int setting, char shown[MOST_SHOWN]) {
     uint32_t value = settings->now[setting];
     int unit = 0;
     while (unit + 1 < UNITS && value % units[unit + 1].milliseconds == 0)
@@ -95,4 +95,42 @@ void setting_show(const struct settings *settings, int setting, char shown[MOST_
         strcpy(shown, "0");
     else
         sqlite3_snprintf(MOST_SHOWN, shown, "%u%s", value / units[unit].milliseconds, units[unit].name);
+}
+
+/* What can't be set: a name, what its column is called, and its value. */
+static const char *const fixed[][3] = {
+    {"transaction_isolation", "transaction_isolation", "serializable"},
+    {"default_transaction_isolation", "default_transaction_isolation", "serializable"},
+    {"transaction_read_only", "transaction_read_only", "off"},
+    {"default_transaction_read_only", "default_transaction_read_only", "off"},
+    {"server_version", "server_version", "15.0 (SQLite %s)"},
+    {"server_version_num", "server_version_num", "150000"},
+    {"server_encoding", "server_encoding", "UTF8"},
+    {"client_encoding", "client_encoding", "UTF8"},
+    {"standard_conforming_strings", "standard_conforming_strings", "on"},
+    {"datestyle", "\"DateStyle\"", "ISO, MDY"},
+    {"timezone", "\"TimeZone\"", "UTC"},
+    {"search_path", "search_path", "public"},
+    {"max_identifier_length", "max_identifier_length", "63"},
+};
+
+static int fixed_of(const char *name) {
+    for (int i = 0; i < (int)(sizeof fixed / sizeof fixed[0]); i++)
+        if (sqlite3_stricmp(name, fixed[i][0]) == 0)
+            return i;
+    return -1;
+}
+
+int setting_show(const struct settings *settings, const char *name, char shown[MOST_SHOWN]) {
+    int setting = setting_of(name), other = fixed_of(name);
+    if (setting >= 0)
+        show(settings, setting, shown);
+    else if (other >= 0)
+        sqlite3_snprintf(MOST_SHOWN, shown, fixed[other][2], sqlite3_libversion());
+    return setting >= 0 || other >= 0;
+}
+
+const char *setting_label(const char *name) {
+    int setting = setting_of(name), other = fixed_of(name);
+    return setting >= 0 ? settings_there[setting].name : other >= 0 ? fixed[other][1] : NULL;
 }

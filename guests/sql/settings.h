@@ -26,8 +26,12 @@ int settings_set(struct settings *settings, int setting, const char *value, int 
 /* Of a transaction that ends. */
 void settings_end(struct settings *settings, int is_kept);
 
-/* A value as PostgreSQL shows it, in its largest unit. */
-#define MOST_SHOWN 24
-void setting_show(const struct settings *settings, int setting, char shown[MOST_SHOWN]);
+/* A value as PostgreSQL shows it: of these, in its largest unit, and of others that it has, which can't be set. Answers whether there is one
+   of this name. */
+#define MOST_SHOWN 64
+int setting_show(const struct settings *settings, const char *name, char shown[MOST_SHOWN]);
+
+/* What a setting's column is called, or NULL where there is none of this name. */
+const char *setting_label(const char *name);
 
 #endif

@@ -2,6 +2,7 @@
 
 #include <string.h>
 
+#include "escapes.h"
 #include "sqlite3.h"
 
 #define MOST_WORD 24
@@ -58,10 +59,15 @@ static int is_one_of(const char *word, const char *const words[]) {
     return 0;
 }
 
+/* Whether a string with escapes begins here, E'..', behind another character. */
+static int is_escaped(const char *at, const char *begin) {
+    return (*at | 32) == 'e' && at[1] == '\'' && (at == begin || !(is_letter(at[-1]) || is_digit(at[-1])));
+}
+
 /* After the next semicolon that isn't within quotes, or at the end. */
 static const char *after_semicolon(const char *at) {
-    while (*at != '\0' && *at != ';') {
-        const char *after = after_quoted(at);
+    for (const char *begin = at; *at != '\0' && *at != ';';) {
+        const char *after = is_escaped(at, begin) ? after_escaped(at + 1) : after_quoted(at);
         at = after == at ? at + 1 : after;
     }
     return *at == '\0' ? at : at + 1;

@@ -30,6 +30,7 @@ struct statement {
     int is_counted;          /* whether that has one */
     char name[64];           /* of the setting or of what was prepared */
     char value[32];          /* that is to be set */
+    char show[160];          /* the question that SHOW is */
     int is_default, is_local; /* it is to be as at the start; until the transaction's end */
 };
 

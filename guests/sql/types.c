@@ -4,19 +4,11 @@
 #include <string.h>
 
 #include "rows.h"
-#include "statement.h"
+#include "tokens.h"
 
 #define MOST_NAME 64
 #define MOST_TABLES 8
 #define BEFORE 6 /* tokens that are kept */
-
-enum token_kind { END_OF_TEXT, WORD, NAME, PARAMETER, VALUE, SIGN };
-
-struct token {
-    enum token_kind kind;
-    const char *at;
-    uint32_t length;
-};
 
 /* What is known as the text is read. */
 struct reading {
@@ -33,54 +25,10 @@ struct reading {
     int place, is_insert, values_depth;
 };
 
-static int is_letter(char c) { return ((c | 32) >= 'a' && (c | 32) <= 'z') || c == '_' || (c & 0x80) != 0; }
-
-static int is_digit(char c) { return c >= '0' && c <= '9'; }
-
-static struct token next_token(const char *at) {
-    struct token token = {SIGN, after_blanks(at), 1};
-    const char *from = token.at, *end = after_quoted(from);
-    if (*from == '\0') {
-        token = (struct token){END_OF_TEXT, from, 0};
-    } else if (end != from) {
-        token = (struct token){*from == '\'' ? VALUE : NAME, from, (uint32_t)(end - from)};
-    } else if (is_letter(*from) || is_digit(*from) || *from == '$' || *from == '?') {
-        for (end = from + 1; is_letter(*end) || is_digit(*end) || (*from == '$' && *end == ':'); end++)
-            ;
-        token.kind = is_letter(*from) ? WORD : is_digit(*from) ? VALUE : PARAMETER;
-        token.length = (uint32_t)(end - from);
-    } else if (strchr("<>=!|", *from) != NULL && from[1] != '\0' && strchr("<>=|", from[1]) != NULL) {
-        token.length = 2;
-    }
-    return token;
-}
-
-static int is(const struct token *token, const char *text) {
-    return (token->kind == WORD || token->kind == SIGN) && token->length == strlen(text)
-           && sqlite3_strnicmp(token->at, text, (int)token->length) == 0;
-}
-
-static int is_one(const struct token *token, const char *const texts[]) {
-    for (; *texts != NULL; texts++)
-        if (is(token, *texts))
-            return 1;
-    return 0;
-}
-
-static int is_name(const struct token *token) { return token->kind == WORD || token->kind == NAME; }
-
 /* Signs and words between a column and what has its type. */
 static int is_beside(const struct token *token) {
     static const char *const texts[] = {"=", "==", "<", ">", "<=", ">=", "<>", "!=", "IS", "NOT", "+", "-", "*", "/", "%", NULL};
     return is_one(token, texts);
-}
-
-static void copy_name(const struct token *token, char name[MOST_NAME]) {
-    int is_quoted = token->kind == NAME;
-    uint32_t length = token->length - (is_quoted ? 2 : 0);
-    length = length < MOST_NAME ? length : MOST_NAME - 1;
-    memcpy(name, token->at + is_quoted, length);
-    name[length] = '\0';
 }
 
 /* The type of a column that one of the statement's tables has; 0 where none has it. */
@@ -89,7 +37,7 @@ static uint32_t type_of_name(const struct reading *reading, const struct token *
     const char *declared;
     if (!is_name(token))
         return 0;
-    copy_name(token, name);
+    copy_name(token, name, sizeof name);
     for (int i = 0; i < reading->tables_count; i++) {
         const char *table = reading->tables[i];
         if (sqlite3_table_column_metadata(reading->database, NULL, table, name, &declared, NULL, NULL, NULL, NULL) == SQLITE_OK)
@@ -122,18 +70,18 @@ static uint32_t type_of_place(const struct reading *reading) {
         return type;
     }
     for (int place = 0; place <= reading->place && !is(&token, ")"); place++) {
-        token = next_token(token.at + token.length);
+        token = token_after(&token);
         if (place == reading->place)
             return type_of_name(reading, &token);
         while (token.kind != END_OF_TEXT && !is(&token, ",") && !is(&token, ")"))
-            token = next_token(token.at + token.length);
+            token = token_after(&token);
     }
     return 0;
 }
 
 static uint32_t type_beside(const struct reading *reading, const struct token *token) {
     const struct token *before = reading->before;
-    struct token next = next_token(token->at + token->length), other = next_token(next.at + next.length);
+    struct token next = token_after(token), other = token_after(&next);
     const char *suffix = memchr(token->at, ':', token->length);
     uint32_t type = 0;
     if (suffix != NULL)
@@ -151,7 +99,7 @@ static uint32_t type_beside(const struct reading *reading, const struct token *t
     for (int i = 0; i < 2 && is_beside(&before[i]) && type == 0; i++)
         type = type_of_name(reading, &before[i + 1]);
     if (type == 0 && is_beside(&next)) {
-        struct token dot = next_token(other.at + other.length), column = next_token(dot.at + dot.length);
+        struct token dot = token_after(&other), column = token_after(&dot);
         type = type_of_name(reading, is(&dot, ".") ? &column : &other);
     }
     return type;
@@ -173,9 +121,9 @@ static void take_table(struct reading *reading, const struct token *token) {
     if (!is_name(token) || is_one(token, passed))
         return;
     if (is_behind)
-        copy_name(token, reading->tables[reading->tables_count - 1]);
+        copy_name(token, reading->tables[reading->tables_count - 1], MOST_NAME);
     else if (is_first && reading->tables_count < MOST_TABLES)
-        copy_name(token, reading->tables[reading->tables_count++]);
+        copy_name(token, reading->tables[reading->tables_count++], MOST_NAME);
 }
 
 static void take_token(struct reading *reading, const struct token *token) {
@@ -208,7 +156,7 @@ static void take_token(struct reading *reading, const struct token *token) {
 /* Reads all tokens: first for the tables, and then, where these are known, for the parameters. */
 static void read_all(struct reading *reading, const char *text, int is_for_tables) {
     memset(reading->before, 0, sizeof reading->before);
-    for (struct token token = next_token(text); token.kind != END_OF_TEXT; token = next_token(token.at + token.length)) {
+    for (struct token token = first_token(text); token.kind != END_OF_TEXT; token = token_after(&token)) {
         int number = token.kind == PARAMETER ? atoi(token.at + 1) : 0;
         if (is_for_tables)
             take_table(reading, &token);

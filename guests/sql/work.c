@@ -5,8 +5,10 @@
 #include "database.h"
 #include "dialect.h"
 #include "locks.h"
+#include "postgres_sql.h"
 
-#define COLLISION "the database is locked by another client's transaction, and this one has begun to read"
+/* The first words are PostgreSQL's, by which programs know it. */
+#define COLLISION "could not serialize access due to concurrent update: another client writes, and this transaction has begun to read"
 
 void set_failure(struct failure *failure, const char *code, const char *why) {
     failure->code = code;
@@ -36,7 +38,7 @@ static const char *code_of_words(const char *why) {
         {"no such database", "3D000"},   {"no such module", "42704"},    {"foreign key mismatch", "42830"},
         {"one primary key", "42P16"},    {"a view", "42809"},            {"use DROP ", "42809"},         {"may not be dropped", "42501"},
         {"may not be altered", "42501"}, {"may not be modified", "42501"}, {"reserved for internal", "42939"},
-        {"ESCAPE expression", "22019"},  {"ON CONFLICT clause", "42P10"}, {"circular reference", "42P19"},
+        {"step size", "22023"},          {"ESCAPE expression", "22019"},  {"ON CONFLICT clause", "42P10"}, {"circular reference", "42P19"},
     };
     for (unsigned i = 0; i < sizeof codes / sizeof codes[0]; i++)
         if (strstr(why, codes[i][0]) != NULL)
@@ -158,30 +160,6 @@ static int is_for_room(struct session *session, int said) {
     return 1;
 }
 
-/* What settings are shown as. */
-static const char *shown(const char *name) {
-    static const char *const values[][2] = {
-        {"transaction_isolation", "SELECT 'serializable' AS transaction_isolation"},
-        {"default_transaction_isolation", "SELECT 'serializable' AS default_transaction_isolation"},
-        {"transaction_read_only", "SELECT 'off' AS transaction_read_only"},
-        {"server_version", "SELECT '15.0 (SQLite ' || sqlite_version() || ')' AS server_version"},
-        {"server_encoding", "SELECT 'UTF8' AS server_encoding"},
-        {"client_encoding", "SELECT 'UTF8' AS client_encoding"},
-        {"standard_conforming_strings", "SELECT 'on' AS standard_conforming_strings"},
-        {"datestyle", "SELECT 'ISO, MDY' AS DateStyle"},
-        {"timezone", "SELECT 'UTC' AS TimeZone"},
-        {"search_path", "SELECT 'main' AS search_path"},
-        {"statement_timeout", "SELECT current_setting('statement_timeout') AS statement_timeout"},
-        {"lock_timeout", "SELECT current_setting('lock_timeout') AS lock_timeout"},
-        {"idle_in_transaction_session_timeout",
-         "SELECT current_setting('idle_in_transaction_session_timeout') AS idle_in_transaction_session_timeout"},
-    };
-    for (unsigned i = 0; i < sizeof values / sizeof values[0]; i++)
-        if (strcmp(name, values[i][0]) == 0)
-            return values[i][1];
-    return NULL;
-}
-
 /* Compiles what SQLite is told for a statement, and says what comes after it. */
 static enum outcome compile(struct session *session, struct statement *statement, sqlite3_stmt **prepared, const char **after,
                             struct failure *failure) {
@@ -190,8 +168,13 @@ static enum outcome compile(struct session *session, struct statement *statement
     int said = session->is_told ? SQLITE_OK : database_tell(session->database);
     session->is_told = said == SQLITE_OK;
     *after = sql;
+    failure->code = NULL;
     if (session->is_told)
-        said = sqlite3_prepare_v2(session->database, sql, -1, prepared, after);
+        said = is_for_postgres(statement, sql) ? SQLITE_ERROR : sqlite3_prepare_v2(session->database, sql, -1, prepared, after);
+    if ((said & 0xff) == SQLITE_ERROR && statement->kind == PLAIN)
+        said = prepare_as_postgres(session, sql, statement->sql == NULL ? statement->end : NULL, prepared, after, failure);
+    if (failure->code != NULL)
+        return FAILED;
     if (is_busy(said))
         return locked(session, &before, failure);
     return said == SQLITE_OK ? ENDED : fails(session, said, failure);
@@ -203,10 +186,13 @@ enum outcome prepare(struct session *session, struct statement *statement, sqlit
     *prepared = NULL;
     *rest = statement->end;
     session->was_block = is_in_block(session);
-    if (statement->kind == SHOW && (statement->sql = shown(statement->name)) == NULL) {
+    if (statement->kind == SHOW && setting_label(statement->name) == NULL) {
         set_failure(failure, "42704", "there is no such setting here");
         return FAILED;
     }
+    if (statement->kind == SHOW)
+        statement->sql = sqlite3_snprintf(sizeof statement->show, statement->show, "SELECT current_setting('%s') AS %s", statement->name,
+                                          setting_label(statement->name));
     spell(statement, &session->spelled);
     if (session->spelled.is_full) {
         set_failure(failure, "53200", "out of memory");

@@ -197,9 +197,9 @@ def of_pgbench(client: Postgres) -> Iterator[tuple[str, str | None]]:
     code = code_of(lambda: client.ask("INSERT INTO pgbench_accounts(aid) VALUES(7)"))
     yield "what came of them", differs([seen, code], [[(200, 1, 200, "own key,pgbench_accounts_pkey")], "23505"])
     rows = [client.rows(f"SELECT * FROM {words}") for words in (
-        "generate_series(1, 3)", "generate_series(5, 1, -2) AS n(x) WHERE x > 1", "generate_series(2, 1) s", "generate_series(1, 2, 0) s",
+        "generate_series(1, 3)", "generate_series(5, 1, -2) AS n(x) WHERE x > 1", "generate_series(2, 1) s",
         "t JOIN generate_series((1), max(1, 2)) AS g ON g = t.a ORDER BY 1")]
-    yield "series", differs(rows, [[(1,), (2,), (3,)], [(5,), (3,)], [], [], [(1, "x", 1)]])
+    yield "series", differs(rows, [[(1,), (2,), (3,)], [(5,), (3,)], [], [(1, "x", 1)]])
     tags = [code_of(lambda sql=sql: client.ask(sql)) for sql in ("DROP TABLE pgbench_accounts, nowhere", "SELECT 1 FROM pgbench_accounts",
                                                                  "TRUNCATE pgbench_accounts, nowhere", "VACUUM (FULL, ANALYZE) t", "VACUUM FULL",
                                                                  "DROP TABLE pgbench_accounts, pgbench_branches CASCADE")]

@@ -87,6 +87,74 @@ struct sqlite3_vfs {
     const char *(*xNextSystemCall)(sqlite3_vfs *, const char *);
 };
 
+/* Virtual tables (https://sqlite.org/vtab.html). */
+
+typedef struct sqlite3_module sqlite3_module;
+typedef struct sqlite3_vtab {
+    const sqlite3_module *pModule;
+    int nRef;
+    char *zErrMsg;
+} sqlite3_vtab;
+typedef struct sqlite3_vtab_cursor {
+    sqlite3_vtab *pVtab;
+} sqlite3_vtab_cursor;
+typedef struct sqlite3_index_info {
+    int nConstraint;
+    struct sqlite3_index_constraint {
+        int iColumn;
+        unsigned char op, usable;
+        int iTermOffset;
+    } *aConstraint;
+    int nOrderBy;
+    struct sqlite3_index_orderby {
+        int iColumn;
+        unsigned char desc;
+    } *aOrderBy;
+    struct sqlite3_index_constraint_usage {
+        int argvIndex;
+        unsigned char omit;
+    } *aConstraintUsage;
+    int idxNum;
+    char *idxStr;
+    int needToFreeIdxStr, orderByConsumed;
+    double estimatedCost;
+    sqlite3_int64 estimatedRows;
+    int idxFlags;
+    sqlite3_uint64 colUsed;
+} sqlite3_index_info;
+struct sqlite3_module {
+    int iVersion;
+    int (*xCreate)(sqlite3 *, void *, int, const char *const *, sqlite3_vtab **, char **);
+    int (*xConnect)(sqlite3 *, void *, int, const char *const *, sqlite3_vtab **, char **);
+    int (*xBestIndex)(sqlite3_vtab *, sqlite3_index_info *);
+    int (*xDisconnect)(sqlite3_vtab *);
+    int (*xDestroy)(sqlite3_vtab *);
+    int (*xOpen)(sqlite3_vtab *, sqlite3_vtab_cursor **);
+    int (*xClose)(sqlite3_vtab_cursor *);
+    int (*xFilter)(sqlite3_vtab_cursor *, int, const char *, int, sqlite3_value **);
+    int (*xNext)(sqlite3_vtab_cursor *);
+    int (*xEof)(sqlite3_vtab_cursor *);
+    int (*xColumn)(sqlite3_vtab_cursor *, sqlite3_context *, int);
+    int (*xRowid)(sqlite3_vtab_cursor *, sqlite3_int64 *);
+    int (*xUpdate)(sqlite3_vtab *, int, sqlite3_value **, sqlite3_int64 *);
+    int (*xBegin)(sqlite3_vtab *);
+    int (*xSync)(sqlite3_vtab *);
+    int (*xCommit)(sqlite3_vtab *);
+    int (*xRollback)(sqlite3_vtab *);
+    int (*xFindFunction)(sqlite3_vtab *, int, const char *, void (**)(sqlite3_context *, int, sqlite3_value **), void **);
+    int (*xRename)(sqlite3_vtab *, const char *);
+    int (*xSavepoint)(sqlite3_vtab *, int);
+    int (*xRelease)(sqlite3_vtab *, int);
+    int (*xRollbackTo)(sqlite3_vtab *, int);
+    int (*xShadowName)(const char *);
+};
+
+enum { SQLITE_INDEX_CONSTRAINT_EQ = 2 };
+
+int sqlite3_create_module(sqlite3 *, const char *, const sqlite3_module *, void *);
+int sqlite3_create_module_v2(sqlite3 *, const char *, const sqlite3_module *, void *, void (*)(void *));
+int sqlite3_declare_vtab(sqlite3 *, const char *);
+
 typedef struct sqlite3_mem_methods {
     void *(*xMalloc)(int);
     void (*xFree)(void *);
@@ -111,6 +179,7 @@ char *sqlite3_mprintf(const char *, ...);
 char *sqlite3_snprintf(int, char *, const char *, ...);
 int sqlite3_stricmp(const char *, const char *);
 int sqlite3_strnicmp(const char *, const char *, int);
+int sqlite3_keyword_check(const char *, int);
 
 int sqlite3_open(const char *, sqlite3 **);
 int sqlite3_close(sqlite3 *);
@@ -133,15 +202,24 @@ int sqlite3_create_function(sqlite3 *, const char *, int, int, void *, void (*)(
                             void (*)(sqlite3_context *, int, sqlite3_value **), void (*)(sqlite3_context *));
 void *sqlite3_user_data(sqlite3_context *);
 sqlite3 *sqlite3_context_db_handle(sqlite3_context *);
+void *sqlite3_aggregate_context(sqlite3_context *, int);
 int sqlite3_value_type(sqlite3_value *);
+int sqlite3_value_numeric_type(sqlite3_value *);
+int sqlite3_value_int(sqlite3_value *);
+sqlite3_int64 sqlite3_value_int64(sqlite3_value *);
+double sqlite3_value_double(sqlite3_value *);
 const unsigned char *sqlite3_value_text(sqlite3_value *);
 const void *sqlite3_value_blob(sqlite3_value *);
 int sqlite3_value_bytes(sqlite3_value *);
 sqlite3_value *sqlite3_value_dup(const sqlite3_value *);
 void sqlite3_value_free(sqlite3_value *);
 void sqlite3_result_int(sqlite3_context *, int);
+void sqlite3_result_int64(sqlite3_context *, sqlite3_int64);
+void sqlite3_result_blob(sqlite3_context *, const void *, int, void (*)(void *));
 void sqlite3_result_text(sqlite3_context *, const char *, int, void (*)(void *));
 void sqlite3_result_value(sqlite3_context *, sqlite3_value *);
+void sqlite3_result_subtype(sqlite3_context *, unsigned);
+unsigned sqlite3_value_subtype(sqlite3_value *);
 void sqlite3_result_error(sqlite3_context *, const char *, int);
 void sqlite3_result_error_code(sqlite3_context *, int);
 void sqlite3_result_error_nomem(sqlite3_context *);
@@ -157,6 +235,8 @@ int sqlite3_clear_bindings(sqlite3_stmt *);
 int sqlite3_stmt_readonly(sqlite3_stmt *);
 int sqlite3_bind_parameter_count(sqlite3_stmt *);
 const char *sqlite3_bind_parameter_name(sqlite3_stmt *, int);
+int sqlite3_bind_value(sqlite3_stmt *, int, const sqlite3_value *);
+sqlite3_value *sqlite3_column_value(sqlite3_stmt *, int);
 int sqlite3_bind_null(sqlite3_stmt *, int);
 int sqlite3_bind_int(sqlite3_stmt *, int, int);
 int sqlite3_bind_int64(sqlite3_stmt *, int, sqlite3_int64);
