@@ -41,12 +41,16 @@ class Line(threading.Thread):
 
 
 class Hosts:
-    """Two hosts, the live one first, and a thread that kills one every so many seconds with SIGKILL, and starts it again."""
+    """Two hosts, the live one first, and a thread that kills one every so many seconds with SIGKILL, and starts it again; with `hands_on`
+    one time in three it has the live one hand its guest on and end instead. `kills` counts them: of the live one, of the standby, handed
+    on."""
 
-    def __init__(self, folder: str, guest: Path, port: int, every: float, epoch: float) -> None:
-        self.hosts = loopback_pair(folder, guest, steps_per_ms=50_000, epoch_ms=epoch)
+    def __init__(self, folder: str, guest: Path, port: int, every: float, epoch: float, steps_per_ms: int = 50_000,
+                 hands_on: bool = False) -> None:
+        self.hosts = loopback_pair(folder, guest, steps_per_ms=steps_per_ms, epoch_ms=epoch)
         self.line, self.every, self.is_over = Line([(port, 5432, False)], *self.hosts), every, threading.Event()
-        self.killer, self.kills, self.wrong = threading.Thread(target=self.kill, daemon=True), [0, 0], []
+        self.killer, self.kills, self.wrong = threading.Thread(target=self.kill, daemon=True), [0, 0, 0], []
+        self.hands_on = hands_on
 
     def __enter__(self) -> Hosts:
         self.hosts[0].start().ask("promote", boot=True)
@@ -60,19 +64,31 @@ class Hosts:
         rng = random.Random(1)
         try:
             while not self.is_over.wait(self.every * (1 + rng.random()) / 2):
-                live, standby = self.hosts
-                is_live = rng.random() < 0.75
-                (live if is_live else standby).kill()
-                if is_live:
-                    standby.ask("promote")
-                    self.hosts.reverse()
+                if self.hands_on and rng.random() < 1 / 3:
+                    self.hand_on()
                 else:
-                    live.ask("alone")
-                self.kills[not is_live] += 1
+                    self.kill_one(is_live=rng.random() < 0.75)
                 self.hosts[1].start()
                 protected(*self.hosts)
         except Exception as error:
             self.wrong.append(f"after {self.kills} kills: {error!r}")
+
+    def kill_one(self, is_live: bool) -> None:
+        live, standby = self.hosts
+        (live if is_live else standby).kill()
+        if is_live:
+            standby.ask("promote")
+            self.hosts.reverse()
+        else:
+            live.ask("alone")
+        self.kills[not is_live] += 1
+
+    def hand_on(self) -> None:
+        """By SIGTERM."""
+        self.hosts[0].end()
+        self.hosts.reverse()
+        self.hosts[0].wait(lambda status: status["role"] == "live")
+        self.kills[2] += 1
 
     def __exit__(self, *_: object) -> None:
         self.is_over.set()
