@@ -18,7 +18,7 @@ VERBS = {
     "alone": "says that the standby has stopped for good",
     "drain": "moves the guest to its standby, which loses nothing",
     "demote": "drains, or freezes the guest where there is no standby",
-    "save": "keeps the guest of a host that is alone in a file",
+    "save": "keeps the guest in a file, from this host's log or, at a host that is alone, without one",
     "metrics": "prints what is counted, as Prometheus reads it",
 }
 

@@ -4,7 +4,7 @@ import select
 import time
 from collections.abc import Callable
 
-from host import messages, network
+from host import messages, network, saving
 from host.boot import boot_of
 from host.control import Control, Scrapes
 from host.guarded import guarded
@@ -50,7 +50,8 @@ class Daemon:
         self.node = Node(settings.node)
         self.live = self.standby = self.peer = self.life = self.shape = None
         self.instance = secrets.token_hex(8)
-        self.kept = Kept(self, Disk())
+        self.kept, self.saving = Kept(self, Disk()), None
+        saving.forget(self.kept.folder)
         self.recover()
         self.signals = Signals(self)
 
@@ -290,6 +291,8 @@ class Daemon:
         hears_log = self.live is None or self.live.own is not None and not is_patient
         if hears_log:
             reading.append(self.kept.keeper)
+        if self.saving is not None:
+            reading.append(self.saving)
         for one in self.served:
             one.watched(reading, writing)
         readable, writable, _ = select.select(reading, writing, [], self.wait(time.monotonic()))
@@ -311,6 +314,8 @@ class Daemon:
             self.live.turn(now)
         if self.task is not None:
             self.turn_task(now)
+        if self.saving is not None and self.saving in readable:
+            self.saving.turn()
         for one in self.served:
             if one.clients or one.late or one.listener in readable:
                 one.turn(readable, writable, now)
@@ -378,6 +383,8 @@ class Daemon:
 
     def close(self):
         self.kept.close()
+        if self.saving is not None:
+            self.saving.close()
         for one in (self.control, self.scrapes, self.network, self.node):
             one.close()
         self.link.end()

@@ -8,6 +8,7 @@ from host.boot import BadGuest
 from host.guarded import guarded
 from host.modes import ALONE, PAIRED
 from host.node import Refused
+from host.saving import Saving
 from host.snapshot import NoBoot, NotASnapshot, boot_over, load
 from host.tasks import Answer, Asker, Drain, Promotion, Save, Tell, refusal
 
@@ -194,15 +195,30 @@ class Verbs:
         self.host.turn_task(now)
 
     def save(self, answer: Tell, file: str) -> Answer | None:
+        host, at = self.host, self.host.kept.on_disk()
+        if host.saving is not None:
+            return refusal("Busy", "a snapshot is being saved")
+        if at is None and (why := self.why_not_saved()):
+            return why
+        try:
+            if at is not None:
+                host.saving = Saving(host, at, file, answer)
+            else:
+                host.task = Save(host, file, answer, time.monotonic())
+        except OSError as error:
+            return refusal("File", f"{file} can't be written: {error.strerror}")
+        return None
+
+    def why_not_saved(self) -> Answer | None:
+        """The refusal of a host without a log."""
         host = self.host
+        if host.role == "standby":
+            return refusal("NotLogged", "this host keeps no log, or has none yet: save at the live host, if that keeps one")
         if host.live is None:
             return refusal("NotLive", f"this host is {host.role}")
         if host.live.mode != ALONE:
-            return refusal("NotAlone", "this host has a standby: drain, or stop the standby and tell 'alone' first")
-        try:
-            host.task = Save(host, file, answer, time.monotonic())
-        except OSError as error:
-            return refusal("File", f"{file} can't be written: {error.strerror}")
+            return refusal("NotAlone", "this host has a standby, and keeps no log of its own, as with log = both: save at the standby, if that "
+                           "keeps one, or stop it and tell 'alone' first")
         return None
 
 

@@ -44,6 +44,18 @@ def course_of(disk: Disk, room: Path, generation: int, is_copy: bool) -> Course 
     return Course(room, made)
 
 
+def course_upto(disk: Disk, room: Path, generation: int, number: int) -> Course:
+    """A log that is just being written, up to a checkpoint that is on the disk. Raises Rotten, LogBehind, OSError."""
+    log = LogReader(disk, room, generation)
+    try:
+        found = log.judged(number)
+    finally:
+        log.close()
+    if found is None or found.number < number:
+        raise LogBehind(f"{generation}.log ends before checkpoint {number}")
+    return Course(room, links(disk, room, found))
+
+
 def whole_course_of(disk: Disk, room: Path, generation: int, is_copy: bool) -> Course | None:
     """The same, but None where a copy's log isn't whole."""
     try:

@@ -281,6 +281,12 @@ class Kept:
 
     # What is told.
 
+    def on_disk(self) -> tuple[int, int] | None:
+        """The generation and the number up to which this host has its guest in a log; None where it has none."""
+        host = self.host
+        log = host.live.own if host.live is not None else host.standby.logged if host.standby is not None else None
+        return None if log is None or log.keeper.failed is not None else log.reached
+
     def status(self) -> dict | None:
         """None where no log is kept and none is refused."""
         if not self.keeps and self.refused is None:

@@ -76,10 +76,10 @@ class LogReader:
         data = body[HEADER.size:HEADER.size + length]
         return Record(kind, generation, number, when, synced, chain, data, place + size)
 
-    def judged(self) -> Found | None:
-        """The log up to its end, or None where not even its head is there. Raises Rotten."""
+    def judged(self, upto: int | None = None) -> Found | None:
+        """The log up to its end, or to that checkpoint; None where not even its head is there. Raises Rotten."""
         place, chain, head, places, is_over, begun, ended, is_joined = 0, FIRST, None, [], False, 0, 0, False
-        while (one := self.record_at(place)) is not None:
+        while (not place or len(places) != upto) and (one := self.record_at(place)) is not None:
             self.follows(one, place, chain, len(places), is_over)
             if one.kind == HEAD:
                 head, begun = read_head(one.data), one.when
@@ -89,7 +89,8 @@ class LogReader:
             is_over |= one.kind == OVER
             is_joined |= one.kind == JOINED
             place, chain, ended = one.behind, one.chain, one.when
-        self.check_torn(place)
+        if upto is None:
+            self.check_torn(place)
         return None if head is None else Found(self.generation, head, places, is_over, chain, place, begun, ended, is_joined)
 
     def outlined(self) -> Found | None:

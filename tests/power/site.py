@@ -14,6 +14,7 @@ from pathlib import Path
 from host import ctl
 from host.log.disk import Disk
 from host.log.reading import newest
+from host.snapshot import find_text
 from tests.disks import lose
 from tests.hosts import Asker, Host, loopback_pair, protected
 from tests.power.web import Visitor
@@ -66,7 +67,7 @@ class Site:
         self.list_moments()
 
     def list_moments(self) -> None:
-        self.moments = [self.at_any_time, self.at_any_time, self.in_a_turn, self.in_a_turn, self.in_a_rejoin, self.in_a_drain,
+        self.moments = [self.at_any_time, self.at_any_time, self.in_a_turn, self.in_a_turn, self.in_a_rejoin, self.in_a_drain, self.in_a_save,
                         self.of_the_standby, self.of_the_live_host, self.going_alone]
 
     def __enter__(self) -> Site:
@@ -165,6 +166,18 @@ class Site:
         meanwhile(self.live, "drain")
         self.pause(0.03)
         self.cut_both("in a drain")
+        self.recover()
+
+    def in_a_save(self) -> None:
+        """What is saved is whole, or isn't there."""
+        saver = self.rng.choice([self.live, self.other]) if self.LOG == "both" else self.other
+        meanwhile(saver, "save", file=str(self.saved))
+        self.pause(0.5)
+        self.cut_both("in a save")
+        if self.saved.exists():
+            with open(self.saved, "rb") as file:
+                find_text(file, False)
+            self.saved.unlink()
         self.recover()
 
     def of_the_standby(self) -> None:

@@ -11,7 +11,7 @@ class TwoLogs(Site):
     LOG = "both"
 
     def list_moments(self) -> None:
-        self.moments = [self.at_any_time, self.at_any_time, self.in_a_turn, self.in_a_rejoin, self.in_a_filling, self.in_a_drain,
+        self.moments = [self.at_any_time, self.at_any_time, self.in_a_turn, self.in_a_rejoin, self.in_a_filling, self.in_a_drain, self.in_a_save,
                         self.of_the_standby, self.of_the_live_host, self.going_alone, self.alone_without_power, self.alone_without_power]
 
     def cut_both(self, when: str) -> None:
