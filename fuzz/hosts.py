@@ -25,7 +25,8 @@ COUNTER = ROOT / "examples" / "counter.sim"
 AT_ONCE = 50  # lines of the control socket, on one connection
 PATIENCE = 30  # seconds, for a connection that is to come about on a machine with other work
 SESSION = bytes(range(16))
-HELLO = dict(version=1, name="x", instance="y", role="empty", life=None, generation=0, session=None, full=False, committed=None)
+HELLO = dict(version=messages.VERSION, name="x", instance="y", role="empty", life=None, generation=0, session=None, full=False,
+             committed=None)
 OFFER = dict(name="x", instance="y", life="z", generation=5, pages=32, sectors=8)
 # None of these is a request that would change a role, nor a few bytes from one.
 LINES = [{"do": "status"}, {"do": "metrics"}, {"do": "promote", "boot": ["true", "or", "false"]}, {"do": "save"},

@@ -8,6 +8,7 @@ from host import messages, network, saving
 from host.boot import boot_of
 from host.control import Control, Scrapes
 from host.guarded import guarded
+from host.heir import Heir
 from host.link import Link
 from host.live import Live
 from host.log.disk import Disk
@@ -20,6 +21,7 @@ from host.signals import AtOnce, Signals
 from host.standby import Broken, Standby
 from host.state import State
 from host.tasks import Drain
+from host.turning import turn_to
 
 MOST_FRAMES = 32  # from the network, before the guest runs again
 VERSION = version()
@@ -49,6 +51,7 @@ class Daemon:
         self.network, self.looked_at, self.mended_at = network.network(settings), 0.0, 0.0
         self.node = Node(settings.node)
         self.live = self.standby = self.peer = self.life = self.shape = None
+        self.heir: Heir | None = None  # is there while this host hands its guest on, or keeps it then
         self.instance = secrets.token_hex(8)
         self.kept, self.saving = Kept(self, Disk()), None
         saving.forget(self.kept.folder)
@@ -79,6 +82,18 @@ class Daemon:
         return self.live is not None and self.live.is_frozen
 
     @property
+    def keeps(self) -> bool:
+        """Whether the guest stands here just as its standby has it, and this host follows that one once it is live."""
+        return self.is_frozen and self.heir is not None
+
+    @property
+    def committed(self) -> int | None:
+        """The checkpoint at which what is here stands, if it isn't live."""
+        if self.keeps:
+            return self.live.acked
+        return self.standby.committed if self.standby else None
+
+    @property
     def full(self):
         return self.live is not None or self.standby is not None and self.standby.is_full
 
@@ -106,6 +121,7 @@ class Daemon:
         """What is here is given up. The guest, where it was here, makes no step any more: its node is told nothing, and killed."""
         self.link.close()
         self.node.kill()
+        self.leave_heir()
         if self.standby is not None:
             self.standby.leave()
             self.kept.over()
@@ -146,16 +162,29 @@ class Daemon:
         self.log.info(f"booted {self.settings.guest}: life {self.life}")
 
     def go_live(self, now: float, word: bytes | None = None) -> None:
-        """A standby with a full checkpoint goes on as the guest; who told it so gets this word. Raises Refused."""
+        """A standby with a full checkpoint goes on as the guest. The host that keeps it as it is here is its standby; else this host is
+        alone, and who told it to go live gets this word. Raises Refused."""
         self.standby.catch_up_all()
         answer = self.node.ask("golive")
         standby, self.standby = self.standby, None
-        if word is not None:
-            self.link.send(word, now)
-        self.link.close()
-        self.start(Live(self, answer.number(1), answer.number(3), now), standby.logged)
+        live = Live(self, answer.number(1), answer.number(3), now)
+        if not standby.is_kept or self.kept.is_both or not self.is_followed(live, standby, now):
+            if word is not None:
+                self.link.send(word, now)
+            self.link.close()
+        self.start(live, standby.logged)
         self.counts.failovers += 1
         self.log.info(f"live in generation {self.generation}, from step {self.live.steps}")
+
+    def is_followed(self, live: Live, standby: Standby, now: float) -> bool:
+        """Has the host that keeps the guest be the standby."""
+        try:
+            turn_to(live, standby.session, self.peer, standby.generation, standby.committed, now)
+        except Refused as refused:
+            self.log.error(f"the node refuses to protect the guest: {refused}; {self.peer[0]}, which keeps it, begins anew")
+            return False
+        self.meeting.attached_at = now
+        return True
 
     def start(self, live: Live, logged: StandbyLog | None = None) -> None:
         """The guest runs from now on, and bridges learn where it is. `logged` is the log of the standby that this host was."""
@@ -170,19 +199,75 @@ class Daemon:
         self.network.put(network.announcement(self.settings.guest_address))
 
     def freeze(self):
+        """The guest stops, and is kept, but for no other host."""
+        self.leave_heir()
+        self.link.close()
+        self.keep()
+
+    def keep(self) -> None:
         """The guest stops, and is kept."""
         self.live.stop(self.link.now())
         self.live.is_frozen = True
         self.network.down()
-        self.link.close()
         self.log.info("frozen: the guest is kept, and doesn't run")
 
     def thaw(self, now):
+        self.leave_heir()
         self.meeting.goes_live()
         self.live.go_on(now)
         self.network.up()
         self.network.put(network.announcement(self.settings.guest_address))
         self.log.info("live again")
+
+    # A hand-over to a host that this one follows.
+
+    def have_heir(self) -> None:
+        """Begins to make one. A host that keeps logs follows nobody: what it takes is to be on its disk, from the full checkpoint on."""
+        if not self.kept.keeps:
+            self.heir = Heir(self)
+            self.heir.start()
+
+    def leave_heir(self) -> None:
+        if self.heir is not None:
+            self.heir.close()
+            self.heir = None
+
+    def leave_useless_heir(self) -> None:
+        """Leaves one that can't be had."""
+        if self.heir is not None and not self.heir.is_ready:
+            self.log.warning(f"this host can't follow the one that it hands its guest to: {self.heir.wrong or 'it takes too long'}")
+            self.leave_heir()
+
+    def tell_kept(self, now: float) -> None:
+        """Tells the standby that this host keeps the guest as it stands, and follows it."""
+        if self.heir is not None:
+            self.link.send(messages.message(messages.KEEPS, self.session, messages.NUMBER.pack(self.generation, self.live.acked)), now)
+
+    def follow(self, generation: int, number: int, later: int, now: float) -> None:
+        """The standby went live from where the guest stands here. This host is its standby, as long as its node doesn't refuse."""
+        live, heir = self.live, self.heir
+        if (generation, number, later) != (live.generation, live.acked, heir.generation):
+            raise messages.Malformed(f"generation {later} stands on checkpoint {number} of generation {generation}, which isn't here")
+        try:
+            following = heir.follow(self.node, self.kept.keeper.wake)
+        except Refused as refused:
+            self.log.error(f"this host can't follow {live.standby[0]}, which is live, and begins anew: its node refused: {refused}")
+            self.link.send(self.meeting.declining(str(refused), live.session), now)
+            return self.task.is_live() if self.is_draining else self.become_empty()
+        self.live = self.heir = None
+        self.standby, self.peer = Standby(self, live.session, self.life, later, self.shape), live.standby
+        self.counts.attachments += 1
+        self.meeting.is_told("live", now)
+        self.log.info(f"{self.peer[0]} is live from where the guest stood here, and this host is its standby, for generation {later}")
+        self.standby.follow(following, live.steps, now)
+        if self.is_draining:
+            self.task.is_followed()
+
+    def unfollowed(self, told: dict, now: float) -> None:
+        """The host that kept the guest can't be the standby, and keeps it no more."""
+        self.log.warning(f"{told['name']} can't be a standby: {told['why']}. This host goes on alone")
+        self.link.close()
+        self.live.alone(now)
 
     # What the log tells.
 
@@ -199,26 +284,45 @@ class Daemon:
 
     # What the link tells.
 
-    def attached(self, kind, body, now):
+    def attached(self, kind: int, body: bytes, now: float) -> None:
         """A message of this attachment."""
-        if self.live and kind == messages.ACK:
+        if not (self.heard_by_live(kind, body, now) if self.live else self.standby and self.heard_by_standby(kind, body, now)):
+            raise messages.Malformed(f"a message of kind {kind} to a host that is {self.role}")
+
+    def heard_by_live(self, kind: int, body: bytes, now: float) -> bool:
+        """Whether it is one that a host with a guest takes."""
+        if kind == messages.ACK:
             self.live.acknowledge(*messages.numbers(body), now)
+        elif kind == messages.LONG:
+            self.live.turn_wanted = True
+        elif self.keeps and kind == messages.TURN:
+            self.follow(*messages.turned(body), now)
         elif self.is_handing_over and kind in (messages.LIVE, messages.STAYS):
             self.heard_of_hand_over(kind, body, now)
-        elif self.standby and kind == messages.TEXT:
+        elif self.live.is_unfollowed and kind == messages.NO:
+            self.unfollowed(messages.fields(kind, body), now)
+        else:
+            return self.live.is_unfollowed and kind in (messages.KEEPS, messages.GO_LIVE)  # said before it heard
+        return True
+
+    def heard_by_standby(self, kind: int, body: bytes, now: float) -> bool:
+        """Whether it is one that a standby takes."""
+        if kind == messages.TEXT:
             self.taken(lambda: self.standby.text(body, now))
-        elif self.live and kind == messages.LONG:
-            self.live.turn_wanted = True
-        elif self.standby and kind == messages.TURN:
+        elif kind == messages.TURN:
             self.taken(lambda: self.standby.turned(*messages.turned(body), now))
-        elif self.standby and kind == messages.JOIN:
+        elif kind == messages.JOIN:
             self.taken(lambda: self.standby.told_joined(*messages.numbers(body), now))
-        elif self.standby and kind == messages.GO_LIVE:
+        elif kind == messages.KEEPS:
+            self.standby.stands_at = messages.numbers(body)
+            self.meeting.is_told("frozen", now)
+        elif kind == messages.GO_LIVE:
             self.told_to_go_live(*messages.numbers(body), now)
-        elif self.standby and not self.standby.is_full and kind == messages.NO:
+        elif not self.standby.is_full and kind == messages.NO:
             self.meeting.turned_away(messages.fields(kind, body))
         else:
-            raise messages.Malformed(f"a message of kind {kind} to a host that is {self.role}")
+            return False
+        return True
 
     def taken(self, part: Callable[[], None]) -> None:
         """What the standby is sent. Raises Malformed."""
@@ -246,9 +350,13 @@ class Daemon:
         self.link.send(messages.told(messages.STAYS, self.standby.session, why=why[:MOST_WHY]), now)
 
     @property
+    def is_draining(self) -> bool:
+        return isinstance(self.task, Drain)
+
+    @property
     def is_handing_over(self) -> bool:
         """Whether the standby was told to go live, and its answer is awaited."""
-        return isinstance(self.task, Drain) and self.task.is_told
+        return self.is_draining and self.task.is_told
 
     def heard_of_hand_over(self, kind: int, body: bytes, now: float) -> None:
         if kind == messages.STAYS:
@@ -385,6 +493,7 @@ class Daemon:
         self.kept.close()
         if self.saving is not None:
             self.saving.close()
+        self.leave_heir()
         for one in (self.control, self.scrapes, self.network, self.node):
             one.close()
         self.link.end()

@@ -96,6 +96,16 @@ class Live:
         return self.session is not None and self.link.has(self.session)
 
     @property
+    def stands_on(self) -> int | None:
+        """The earlier generation in which the standby still stands, whose last checkpoint is this one's full one."""
+        return self.turning.before if self.turning is not None else None
+
+    @property
+    def is_unfollowed(self) -> bool:
+        """Whether the host that was live before keeps its guest, and doesn't follow this one yet: nothing was let out here."""
+        return self.mode == FILLING and self.turning is not None and self.own is None
+
+    @property
     def waits(self):
         """Whether the guest waits, since no more checkpoints may be pending, and the link is gone, or this host's own log failed."""
         if len(self.pending) < MOST_PENDING:

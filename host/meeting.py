@@ -40,8 +40,7 @@ class Meeting:
         self.said_role, session = host.role, host.branch
         return messages.told(HELLO, NO_SESSION, version=messages.VERSION, name=host.settings.name, instance=host.instance,
                              role=host.role, life=host.life if host.role != "empty" else None, generation=host.generation,
-                             session=session, full=host.full, committed=host.standby.committed if host.standby else None,
-                             **host.kept.told_to_peer())
+                             session=session, full=host.full, committed=host.committed, **host.kept.told_to_peer())
 
     def hear(self, connection, kind, session, body, now):
         """A message over a connection that isn't attached."""
@@ -64,7 +63,7 @@ class Meeting:
             self.over(connection, fields(kind, body), now)
         elif kind == OFFER:
             self.take_offer(connection, session, fields(kind, body), now)
-        elif kind == RESUME and self.host.standby and (session == self.host.session or self.host.standby.logged is not None):
+        elif kind == RESUME and self.may_be_resumed(session):
             self.resumed(connection, session, fields(kind, body), now)
         else:
             raise Malformed(f"a message of kind {kind} before an attachment")
@@ -82,19 +81,22 @@ class Meeting:
         self.is_told(hello["role"], now, is_by_call=False)
         if live:
             live.heard_of(hello["name"], hello["instance"])
+        is_attached = live is not None and live.session is not None and hello["session"] == live.session.hex()
+        if is_attached and host.keeps and hello["role"] == "standby":
+            return self.resume(connection, hello, now)
         if host.role != "live":
             host.kept.heard(hello)
             return self.refuse(connection, f"this host is {host.role}", "debug")
         self.link.wait_for_calls(now)
         if hello["role"] == "live":
             return self.met_another_live(connection, hello)
-        session = hello["session"]
+        is_frozen = hello["role"] == "frozen"
         if live.own is not None and self.is_beginning(hello):
             return self.resume_from_log(connection, hello, now)
-        if session is not None and live.session is not None and session == live.session.hex() and live.own is None:
+        if is_attached and live.own is None and not (is_frozen and hello["committed"] is None):
             return self.resume(connection, hello, now)
         self.withdraw(hello["name"])
-        if session is not None or hello["role"] == "frozen":
+        if hello["session"] is not None or is_frozen:
             return self.stale(connection, hello)
         self.leave_unfilled(hello, now)
         why = self.why_no_offer()
@@ -112,10 +114,11 @@ class Meeting:
             self.link.leave(connection)
 
     def leave_unfilled(self, hello, now):
-        """A standby that has begun anew before all of the full checkpoint was sent to it holds nothing with which anybody could go live."""
+        """A standby that has begun anew before all of the full checkpoint was sent to it holds nothing with which anybody could go live; nor
+        does the host that was live before and kept the guest."""
         live = self.host.live
         is_anew = live.standby is not None and hello["name"] == live.standby[0] and hello["instance"] != live.standby[1]
-        is_unfilled = not live.is_fetched if live.own is None else not live.needs_standby
+        is_unfilled = live.is_unfollowed or not live.is_fetched if live.own is None else not live.needs_standby
         if is_anew and live.mode == FILLING and is_unfilled and self.host.task is None:
             had = "all of the full checkpoint was sent" if live.own is None else "it had all that was let out"
             self.log.info(f"{hello['name']} has begun anew, before {had}: it is filled anew")
@@ -205,7 +208,7 @@ class Meeting:
         if host.is_handing_over and hello["life"] == host.life and other > mine:
             host.task.is_live()
             return self.refuse(connection, "this host has handed its guest on", "debug")
-        if host.live.is_stopped:
+        if host.is_draining:
             return self.refuse(connection, "this host is busy: a drain is under way", "debug")
         if hello["life"] != host.life or other == mine:
             why = "each with another guest" if hello["life"] != host.life else "each in one generation"
@@ -228,7 +231,7 @@ class Meeting:
         self.is_told(role, now)
         if kind == OVER and self.host.is_handing_over:
             self.host.task.is_live()
-        elif kind == OVER and not self.host.live.is_stopped:
+        elif kind == OVER and not self.host.is_draining:
             self.give_way(f"{told['name']} is live too, and {told['why']}")
         elif role == "live":
             self.conflict.is_so(f"two hosts are live, this one and {told['name']}, which answers: {told['why']}", "error")
@@ -248,8 +251,13 @@ class Meeting:
 
     def parted(self, heard_at: float) -> None:
         """The attached link is over, over which something came last then: a live host's standby was told so that it is live."""
-        if self.host.live is None:
+        if self.host.live is None and not self.peer_stands:
             self.live_at, self.says_every, self.is_by_call = heard_at, 0.0, True
+
+    @property
+    def peer_stands(self) -> bool:
+        """Whether the live host has stopped, and keeps its guest, as it said over the link."""
+        return self.host.standby is not None and self.host.standby.is_kept
 
     def is_gone(self) -> None:
         """Nothing listens any more where this host has called the peer: its daemon has ended."""
@@ -264,7 +272,8 @@ class Meeting:
         """When the peer said last that it is live; None where it said otherwise since, or its daemon has ended. Over the link of its standby
         each message says so."""
         link = self.host.link
-        return link.heard_at if link.is_up and self.host.live is None else self.live_at
+        says_all_the_time = link.is_up and self.host.live is None and not self.peer_stands
+        return link.heard_at if says_all_the_time else self.live_at
 
     def may_live(self, now: float, is_fenced: bool) -> bool:
         """Whether the peer may be live, by what it said. One that is made sure to be off has nothing under way any more."""
@@ -320,6 +329,8 @@ class Meeting:
         self.log.info(f"the link to {hello['name']} is back")
         self.compare(now)
         live.resume(generation, committed, now)
+        if self.host.keeps:
+            self.host.tell_kept(now)
 
     def behind(self, connection, hello, acknowledged):
         """This host's standby has less than it acknowledged: frames went out by what it has lost."""
@@ -376,6 +387,8 @@ class Meeting:
         self.link.leave(connection)
         self.is_told("live", now)
         host, why = self.host, f"{told['name']} is live, and {told['why']}"
+        if host.is_handing_over:
+            return host.task.is_live()
         if host.role == "frozen" and host.live.mode != PAIRED:
             self.link.dial_at = now + AGAIN
             return self.link.trouble.is_so(f"{why}; but the guest that is frozen here went on without a standby, so clients may have been "
@@ -432,15 +445,27 @@ class Meeting:
         seconds = self.standing_by.failed(now)
         self.link.trouble.is_so(f"this host can't be a standby: {why}; it asks again, each time later", "error")
         try:
-            connection.send(messages.told(NO, session, why=why[:200], role=self.host.role, name=self.host.settings.name))
+            connection.send(self.declining(why, session))
         except Closed:
             pass
         self.link.leave(connection)
         self.link.dial_at = now + seconds
 
+    def declining(self, why: str, session: bytes) -> bytes:
+        """What tells the live host that this one can't be its standby."""
+        return messages.told(NO, session, why=why[:200], role=self.host.role, name=self.host.settings.name)
+
+    def may_be_resumed(self, session: bytes) -> bool:
+        """Whether this host is a standby in that attachment, or keeps the guest that it has handed on in it."""
+        host = self.host
+        if host.standby is not None and host.standby.logged is not None:
+            return True
+        return session == host.session and (host.standby is not None or host.keeps)
+
     def resumed(self, connection, session, told, now):
-        self.host.standby.resume(session, told.get("behind", False))
-        self.host.kept.attached()
+        if self.host.standby is not None:
+            self.host.standby.resume(session, told.get("behind", False))
+            self.host.kept.attached()
         self.met(connection, self.host.session, told, now)
         self.log.info(f"the link to {told['name']} is back")
         self.compare(now)

@@ -14,19 +14,21 @@ before there is one), and its body:
     9 PING      both, where nothing else was said for a quarter of `link_ms`. With a body, once both are joined: JSON, what the host is
                 configured with that has to be the same at both (host/drift.py)
     10 GO_LIVE  who was live, and has drained and stopped: generation and number of the last checkpoint
-    11 LIVE     who was told so: it is live, from that checkpoint on. Only now the other gives the guest up
+    11 LIVE     who was told so: it is live, alone, from that checkpoint on. Only now the other gives the guest up
     12 STAYS    who was told so: JSON, why it isn't live. The other one's guest goes on
     13 LONG     the standby: its log is long, and is to go on with a later generation
     14 TURN     who is live: a generation and a number (8 bytes each), and a later generation, whose checkpoint 0 is the guest as it is
-                there. No text of it comes; the standby acknowledges it as any other
+                there. No text of it comes; the standby acknowledges it as any other. So it does who said KEEPS, and is the standby then
     15 JOIN     who is live, to a standby that was filled from its log: generation and number of the last checkpoint that was sent. From
                 there on nothing is let out that the standby hasn't acknowledged
+    16 KEEPS    who was live, and has drained and stopped: generation and number of the last checkpoint, with which it keeps its guest. Who
+                goes live from there says TURN
 
 FIELDS has the fields of the JSON objects."""
 import json
 import struct
 
-HELLO, OFFER, READY, RESUME, NO, OVER, TEXT, ACK, PING, GO_LIVE, LIVE, STAYS, LONG, TURN, JOIN = range(1, 16)
+HELLO, OFFER, READY, RESUME, NO, OVER, TEXT, ACK, PING, GO_LIVE, LIVE, STAYS, LONG, TURN, JOIN, KEEPS = range(1, 17)
 LENGTH, HEAD = struct.Struct(">I"), struct.Struct(">IB16s")
 PLACE = struct.Struct(">QQQQ")  # of a text's bytes: generation, number, where they begin, and how many the whole text has, at most
 TEXT_HEAD = struct.Struct(">IB16sQQQQ")  # both
@@ -35,7 +37,7 @@ TURNED = struct.Struct(">QQQ")  # generation, number, later generation
 NO_SESSION = bytes(16)
 MOST_BEFORE = 4096  # bytes of a message, before the two hosts have met
 MOST = 1 << 20
-VERSION = 1
+VERSION = 2
 
 
 class Malformed(Exception):
@@ -75,7 +77,7 @@ def taken(buffer, most):
         length, kind, session = HEAD.unpack_from(buffer, at)
         if not 17 <= length <= most:
             break
-        if not HELLO <= kind <= JOIN:
+        if not HELLO <= kind <= KEEPS:
             raise Malformed(f"a message of kind {kind}")
         begin, behind = at + HEAD.size, at + LENGTH.size + length
         if behind > end:

@@ -64,12 +64,13 @@ class Signals:
         host = self.host
         if isinstance(host.task, Drain):
             host.log.info(f"{name}: {host.task.name}, and this host ends once that is over; it ends at once by a second signal")
+            host.task.has_to_end()
             asked = host.task.answer
             host.task.answer = lambda answer: (asked(answer), self.is_over(answer))
         elif host.role == "live" and host.live.mode == PAIRED and host.task is None:
             host.log.info(f"{name}: {host.live.standby[0]} gets the guest first, within {host.settings.drain_ms * 1000:.0f} ms; this host "
                           "ends at once by a second signal")
-            host.task = Drain(host, host.settings.drain_ms, True, False, self.is_over, now)
+            host.task = Drain(host, host.settings.drain_ms, True, False, self.is_over, now, ends=True)
             host.turn_task(now)
         else:
             host.end()

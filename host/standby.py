@@ -14,8 +14,9 @@ class Broken(Exception):
 
 class Standby:
     """`generation` is the one whose checkpoints it takes. Where it has a log, generation and `committed` are what of it is on the disk: the
-    node may be ahead of that, or, while the log goes on with a later generation (`catching`), another one is made, and what comes waits. It
-    may go live once it `is_joined`: nothing is let out from then on that it hasn't acknowledged."""
+    node may be ahead of that, or, while the log goes on with a later generation, or this host has just handed its guest on (`catching`),
+    another one is made, and what comes waits. It may go live once it `is_joined`: nothing is let out from then on that it hasn't
+    acknowledged."""
 
     def __init__(self, host: "Daemon", session: bytes, life: str, generation: int, shape: tuple[int, int], logged: StandbyLog | None = None,
                  is_joined: bool = True) -> None:
@@ -28,6 +29,7 @@ class Standby:
         self.catching: deque[CatchUp] = deque()  # one for each later generation, of which the first is made
         self.waiting: list[bytes] = []  # of a text that comes while there is no log and no node to take it
         self.has_asked, self.steps_seen, self.joins = False, 0, False
+        self.stands_at: tuple[int, int] | None = None  # where the live host's guest stands, and is kept, as long as this link says so
 
     @property
     def is_full(self) -> bool:
@@ -38,9 +40,14 @@ class Standby:
         """By which its live host knows what it holds: the session in which its generation was written."""
         return self.session.hex() if self.logged is None else self.logged.session_of(self.generation)
 
+    @property
+    def is_kept(self) -> bool:
+        """Whether the live host has stopped, and keeps its guest just as it is here."""
+        return self.stands_at is not None and self.stands_at == (self.generation, self.committed)
+
     def restart(self) -> None:
-        """The link broke off: what came of a text is given up."""
-        self.number, self.taken, self.has_asked = None, 0, False
+        """The link broke off, or a text did: what came of it is given up."""
+        self.number, self.taken, self.has_asked, self.stands_at = None, 0, False, None
         if not self.catching:
             self.node.ask("restart")
 
@@ -59,6 +66,7 @@ class Standby:
         generation, number, begin, total, data = messages.place(body)
         if generation != self.takes:
             return  # of another time
+        self.stands_at = None
         if begin == 0 and self.number is not None:
             self.restart()
         if (begin, number) != (self.taken, number if begin == 0 else self.number):
@@ -90,8 +98,8 @@ class Standby:
 
     def has_committed(self, number: int, now: float) -> None:
         if self.logged is None:
-            if self.catching and number == self.committed + 1:
-                self.catching[-1].backlog.append(b"".join(self.waiting))
+            if self.catching:
+                return self.has_kept(number, now)
             self.acknowledge(number, now)
             return
         text = self.logged.committed(number)
@@ -99,6 +107,14 @@ class Standby:
             self.catching[-1].backlog.append(text)
         if text is None and number == self.committed:
             self.acknowledge(number, now)  # its acknowledgement was lost
+
+    def has_kept(self, number: int, now: float) -> None:
+        """A text waits for the node that is made, unless it is one that is here, whose acknowledgement was lost."""
+        if number > self.committed + 1:
+            raise Broken(f"checkpoint {number} comes behind {self.committed}")
+        if number == self.committed + 1:
+            self.catching[-1].backlog.append(b"".join(self.waiting))
+        self.acknowledge(max(number, self.committed), now)
 
     def acknowledge(self, number: int, now: float) -> None:
         is_first = self.committed is None
@@ -190,6 +206,13 @@ class Standby:
         """Its node is that of the last generation. Raises NodeEnded."""
         while self.catching:
             self.catch_up()
+
+    def follow(self, following: "Following", steps: int, now: float) -> None:
+        """It is the standby from where its own guest stands, which that makes its node of."""
+        self.catching.append(following)
+        self.steps_seen = steps
+        self.acknowledge(0, now)
+        following.begin_once()
 
     def leave(self) -> None:
         """It is none any more, and its node is killed."""

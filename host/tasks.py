@@ -24,27 +24,48 @@ class Asker(Protocol):
 
 ON_ITS_WAY = 0.05  # seconds, within which what comes from the peer may have been said before
 LOOKS = 0.01  # seconds, from one look at what the peer says to the next
+SOON = 0.001  # seconds, from one look at whether an heir is there to the next
 
 
 class Drain:
-    """The guest stops, and its last checkpoint is cut and acknowledged; then this host becomes empty. Where the standby is to go live, the
-    guest is given up only once it has said that it is. Where it isn't acknowledged in time, or the standby refuses, the guest goes on, or
-    is frozen if the host was to be demoted. A standby that was told and hasn't answered may be live: then the guest stays frozen, since
-    nobody here knows. `answer` gets what is to be answered."""
+    """The guest stops, and its last checkpoint is cut and acknowledged. Then it is kept here, frozen, until the standby has gone live and
+    this host follows it, for which an heir (heir.py) is made before. Without one, since this host ends or none can be had, the guest is given
+    up once the standby was told to go live, and says that it is. Where the checkpoint isn't acknowledged in time, or the standby refuses, the
+    guest goes on, or is frozen if the host was to be demoted. A standby that was told and hasn't answered may be live: then the guest stays
+    frozen, since nobody here knows. `answer` gets what is to be answered."""
 
-    def __init__(self, host: Any, within: float, promotes: bool, is_demotion: bool, answer: Tell, now: float) -> None:
+    def __init__(self, host: Any, within: float, promotes: bool, is_demotion: bool, answer: Tell, now: float, ends: bool = False) -> None:
         self.host, self.live, self.answer = host, host.live, answer
         self.end, self.promotes, self.is_demotion = now + within, promotes, is_demotion
         self.name = "a demotion is under way" if is_demotion else "a drain is under way"
-        self.last: int | None = None  # the last checkpoint's number
-        self.is_told, self.told_over = False, None  # whether the standby was told to go live, and over which connection
+        self.has_begun, self.last = False, None  # whether the guest stands; the last checkpoint's number
+        self.is_told, self.told_over = False, None  # whether the standby was told what there is, and over which connection
+        if not ends:
+            host.have_heir()
+        if host.heir is None:
+            self.begin(now)
+
+    def begin(self, now: float) -> None:
+        self.has_begun = True
         self.live.run(now)
         self.live.stop(now)
 
     def due(self, now: float) -> float:
-        return self.end
+        return self.end if self.has_begun else min(self.end, now + SOON)
 
     def turn(self, now: float) -> None:
+        if not self.has_begun:
+            if self.host.heir is not None and not self.host.heir.is_done and now < self.end:
+                return  # the guest runs meanwhile
+            self.host.leave_useless_heir()
+            self.begin(now)
+        self.cut(now)
+        if self.host.task is self and self.last is not None and self.live.acked == self.last:
+            self.has_drained(now)
+        if self.host.task is self and now >= self.end:
+            self.run_out(now)
+
+    def cut(self, now: float) -> None:
         live = self.live
         if self.last is None and len(live.pending) < MOST_PENDING:
             before = live.cut
@@ -53,40 +74,56 @@ class Drain:
             if live.cut == before:
                 return self.go_on("Node", "the node couldn't cut its last checkpoint", now)
             self.last = live.cut
-        if self.last is not None and live.acked == self.last:
-            if not self.promotes:
-                return self.finish("the standby has all, and can be promoted")
-            self.tell_standby(now)
-        if now >= self.end:
-            self.run_out(now)
 
-    def tell_standby(self, now: float) -> None:
-        """Tells it over each connection that it comes with: who dialled again has closed the one before."""
-        link = self.host.link
-        if self.live.is_linked and self.told_over is not link.connection:
-            if not self.is_told:
-                self.end = max(self.end, now + self.host.settings.link_ms)  # an answer takes no longer, where there is a link
-            self.is_told, self.told_over = True, link.connection
-            link.send(go_live(self.live.session, self.live.generation, self.last), now)
+    def has_drained(self, now: float) -> None:
+        """The standby has all. It is told over each connection that it comes with: who dialled again has closed the one before."""
+        host, live, link = self.host, self.live, self.host.link
+        if live.is_linked and self.told_over is not link.connection:
+            if self.promotes and not self.is_told:
+                self.end = max(self.end, now + host.settings.link_ms)  # an answer takes no longer, where there is a link
+            host.tell_kept(now)
+            if self.promotes:
+                self.is_told = True
+                link.send(go_live(live.session, live.generation, self.last), now)
+            self.told_over = link.connection
+        if host.heir is not None and not host.is_frozen:
+            host.keep()
+        if not self.promotes:
+            self.finish("the standby has all, and can be promoted", "this host keeps the guest, and doesn't run it")
 
     # What the standby answers, or says where it comes or is called over another link: that it lives in a later generation of this guest.
 
     def is_live(self) -> None:
+        """Alone: nobody follows it."""
+        self.host.leave_heir()
         self.finish("the standby has all, and is live")
+
+    def is_followed(self) -> None:
+        self.finish("the standby has all, and is live", "this host is its standby")
+
+    def has_to_end(self) -> None:
+        """This host ends once this is over: it follows nobody, unless the standby knows that it does."""
+        if not self.host.is_frozen:
+            self.host.leave_heir()
 
     def stays(self, why: str, now: float) -> None:
         self.go_on("Declined", f"the standby refused to go live: {why}", now)
 
     # How it ends.
 
-    def finish(self, said: str) -> None:
+    def finish(self, said: str, and_here: str = "the guest doesn't run here") -> None:
+        """This host keeps the guest, or follows the other one; else the guest is gone before anybody is told."""
         host, live = self.host, self.live
-        host.task = None
-        host.node.kill()  # the guest is gone before anybody is told
-        host.give_up()
+        host.task, leaves = None, host.live is live and not host.keeps
+        if leaves and not self.promotes:
+            host.freeze()
+            leaves = False
+        if leaves:
+            host.give_up()
         self.answer(host.control.did(f"drained: {said}", handed_on=True))
-        host.log.info(f"drained: checkpoint {self.last} of generation {live.generation} is acknowledged, and the guest doesn't run here")
-        host.become_empty()
+        host.log.info(f"drained: checkpoint {self.last} of generation {live.generation} is acknowledged, and {and_here}")
+        if leaves:
+            host.become_empty()
 
     def run_out(self, now: float) -> None:
         if self.is_told:
@@ -100,17 +137,22 @@ class Drain:
         if self.is_demotion:
             host.freeze()
             self.answer(host.control.did(f"the guest is frozen: {why}", handed_on=False))
+            return
+        if host.is_frozen:
+            host.thaw(now)
         else:
+            host.leave_heir()
             self.live.go_on(now)
-            host.log.warning(f"the drain was given up: {why}")
-            self.answer(refusal(name, f"{why}: the guest goes on here"))
+        host.log.warning(f"the drain was given up: {why}")
+        self.answer(refusal(name, f"{why}: the guest goes on here"))
 
     def keep_frozen(self, name: str, why: str) -> None:
         host, other = self.host, self.live.standby[0] if self.live.standby else "the other host"
         host.task = None
-        host.freeze()
+        if not host.is_frozen:
+            host.freeze()
         told = (f"{why}: the guest is kept here and doesn't run. If {other} is live, this host becomes its standby by itself once the link "
-                "is back; if its status says standby and link down, promote it or this host")
+                "is back; if its status says standby, promote it or this host")
         host.log.error(told)
         self.answer(refusal(name, told))
 

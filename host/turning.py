@@ -1,7 +1,10 @@
 """A live host turns its guest over into a later generation without a full text, so that logs can begin anew: where it was cut it goes alone
 and protects, twice. A standby that goes live and protects where the same cut was committed is the same primary, so that checkpoint 0 of the
 later generation is told by where the earlier one stands. What `alone` lets out is held until that is acknowledged, and in this host's own
-log, if it has one."""
+log, if it has one.
+
+A standby that goes live where its live host has stopped, and keeps its guest, is turned over just so, the other way around: that host is
+its standby at once (heir.py)."""
 from collections import OrderedDict
 
 from host import messages
@@ -15,9 +18,10 @@ class Turn:
     """`before` is the generation that ends at checkpoint `number`, `texts` its texts that aren't acknowledged; `left` the node's lines that
     are to come, since it refused one for want of memory; `frames` are held."""
 
-    def __init__(self, before: int, number: int, texts: OrderedDict[int, bytes], acked: int | None) -> None:
+    def __init__(self, before: int, number: int, texts: OrderedDict[int, bytes], acked: int | None,
+                 left: tuple[bytes, ...] = LINES) -> None:
         self.before, self.number, self.texts, self.acked = before, number, texts, acked
-        self.left, self.frames = list(LINES), []
+        self.left, self.frames = list(left), []
 
     def heard(self, number: int | None) -> None:
         """The standby has committed all of the earlier generation up to this number."""
@@ -68,9 +72,17 @@ def hand_all(live: "Live", now: float) -> None:
 
 def after_going_live(own: "OwnLog") -> Turn:
     """Of a standby that has just gone live, whose log goes on."""
-    turn = Turn(own.generation, own.given, OrderedDict(), None)
-    turn.left = [b"protect"]
-    return turn
+    return Turn(own.generation, own.given, OrderedDict(), None, left=(b"protect",))
+
+
+def turn_to(live: "Live", session: bytes, standby: tuple[str, str], before: int, number: int, now: float) -> None:
+    """The host that was live keeps its guest as it stood at that checkpoint, from which this one went on: it is the standby. Raises
+    Refused."""
+    live.protect(now)
+    live.begin_generation(now)
+    live.session, live.standby = session, standby
+    live.turning = Turn(before, number, OrderedDict(), number, left=())
+    live.turning.tell(live, now)
 
 
 def go_on(live: "Live", now: float) -> bool:

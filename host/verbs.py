@@ -167,6 +167,7 @@ class Verbs:
         now = time.monotonic()
         host.meeting.goes_alone(now)
         host.link.close()
+        host.leave_heir()
         host.kept.outlives(host.live.generation)
         host.live.alone(now)
         host.log.info(f"alone in generation {host.generation}, as it was told")
@@ -240,6 +241,7 @@ def status(host):
         "peer": {"address": "{}:{}".format(*host.settings.peer) if host.settings.peer else None, "name": peer_name,
                  "instance": peer_instance, "role": host.meeting.role_of_peer(now),
                  "successor": live.successor if live else None},
+        "stands_on": live.stands_on if live else None,
         "steps": live.steps if live else standby.steps() if standby else 0,
         "late_ms": round(live.late * 1000) if live else 0, "held": live.held if live else 0,
         "log": host.kept.status(), "dead": live.watch.found if live else None, "network_error": host.network.wrong,
