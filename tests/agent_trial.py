@@ -33,6 +33,7 @@ PEER = {"address": "10.1.0.2:7000", "name": "h2", "instance": "there1", "role": 
 PAIRED = {**ALONE, "mode": "paired", "link": "up", "peer": PEER}
 FROZEN = {**ALONE, "role": "frozen"}
 FROZEN_PAIRED = {**PAIRED, "role": "frozen", "link": "down"}
+KEPT = {**PAIRED, "role": "frozen"}  # by a host that has handed its guest on, and whose standby isn't live yet
 STALLED = {**PAIRED, "unacknowledged_ms": 2100}
 FOLLOWED = {"peer": {**PEER, "successor": "there2"}}
 LIFE = ["pair-life", "life1:3"]

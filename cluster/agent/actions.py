@@ -7,11 +7,12 @@ import time
 from agent import parameters
 from agent.cluster import Cluster
 from agent.daemon import AGAIN_SECONDS, ANSWER_SECONDS, END_SECONDS, PATIENCE_SECONDS, Daemon, Declined, Silent
-from agent.life import SCORE_FIRST, SCORE_FULL, SCORE_LIVE, SCORE_WAITS, Life, alone_in, holds_up_frozen, is_left_half_filled, may_boot
-from agent.life import stale, stalls, why_not, wrong_at
+from agent.life import SCORE_FIRST, SCORE_FULL, SCORE_KEPT, SCORE_LIVE, SCORE_WAITS, Life, alone_in, holds_up_frozen
+from agent.life import is_left_half_filled, keeps, may_boot, stale, stalls, why_not, wrong_at
 from agent.ocf import DEGRADED, GENERIC, INSTALLED, NOT_RUNNING, PROMOTED, SUCCESS, UNIMPLEMENTED, Failure, meta, run, warn
 
 TAKE_SECONDS = 5  # for a demotion before a stop
+ANNOUNCED_SECONDS = 0.5  # for a status, once a demote is announced
 AS_STANDBY = ("Unpromoted", "Slave")  # what Pacemaker calls an instance, to whose monitor it says so
 TWO_LIVE_SECONDS = 5  # longer than from one monitor to the next
 HUNG_SECONDS = 30  # from a failed action to the last of those that follow from it
@@ -74,7 +75,9 @@ class Pair:
         life = self.cluster.life()
         if status["role"] == "empty":
             return SCORE_FIRST if may_boot(status, life, self.booting(status)) and not self.is_beside_live(status) else None
-        return SCORE_FULL if why_not(status, life) is None and not self.is_beside_live(status) else None
+        if why_not(status, life) is not None or self.is_beside_live(status):
+            return None
+        return SCORE_KEPT if keeps(status) else SCORE_FULL
 
     def is_beside_live(self, status: dict) -> bool:
         """Whether a promote was refused here, since the other host is live, and Pacemaker still doesn't know of that: it was stopped there
@@ -408,11 +411,36 @@ class Pair:
             raise Declined("boot the guest", answer, code)
 
     def demote(self) -> int:
-        self.cluster.publish(None)
-        if self.running(AGAIN_SECONDS if self.has_hung() else ANSWER_SECONDS)["role"] == "live":
-            answer = self.daemon.command("demote")
-            syslog.syslog(syslog.LOG_INFO, "demoted: the standby has all" if answer.get("handed_on") else "demoted: the guest is kept here")
+        try:
+            self.stop_guest()
+        except Failure:
+            self.cluster.publish(None)
+            raise
         return SUCCESS
+
+    def stop_guest(self) -> None:
+        """It is kept here until it is live elsewhere, so that this host is promoted again where its standby is stopped before."""
+        status = self.running(AGAIN_SECONDS if self.has_hung() else ANSWER_SECONDS)
+        if status["role"] != "live":
+            return self.publish(status)
+        self.publish_to_be_demoted(status)
+        answer = self.daemon.command("demote")
+        syslog.syslog(syslog.LOG_INFO, "demoted: the standby has all" if answer.get("handed_on") else "demoted: the guest is kept here")
+        if not answer.get("handed_on"):
+            self.publish(self.running())
+
+    def demote_is_announced(self) -> None:
+        """Nothing waits for long for a daemon that hangs."""
+        try:
+            status = self.daemon.status(ANNOUNCED_SECONDS)
+        except Failure:
+            status = None
+        self.publish_to_be_demoted(status)
+
+    def publish_to_be_demoted(self, status: dict | None) -> None:
+        """What a live host's score is once it is demoted, as far as that is known: Pacemaker plans anew while the guest still runs."""
+        is_handed_on = status is not None and (status["role"], status["mode"], status["link"]) == ("live", "paired", "up")
+        self.cluster.publish(SCORE_KEPT if is_handed_on else None)
 
     # Notify.
 
@@ -420,7 +448,7 @@ class Pair:
         what = meta("notify_type"), meta("notify_operation")
         others = [node for node in meta(f"notify_{what[1]}_uname").split() if node != self.cluster.node]
         if what == ("pre", "demote") and self.cluster.node in meta("notify_demote_uname").split():
-            self.cluster.publish(None)
+            self.demote_is_announced()
         elif what == ("post", "stop") and others:
             self.standby_has_stopped()
         elif what == ("post", "promote") and others:
@@ -440,6 +468,8 @@ class Pair:
             warn(failure.reason)
         standby = status["peer"].get("instance")
         self.daemon.command("alone", **({"standby": standby} if standby else {}))
+        if status["role"] == "frozen":
+            self.publish(self.running())
 
     def refuse_unsafe(self) -> None:
         unsafe = self.cluster.unsafe()

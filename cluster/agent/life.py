@@ -4,7 +4,7 @@ from agent.ocf import GENERIC, Failure
 FILLING_SECONDS = 60  # a standby that hasn't taken the full checkpoint by then is given up
 # A live host that hears nothing of its standby may be one that was cut off and fenced by that: where both come together again Pacemaker has
 # two promoted hosts, and keeps the one with the higher score.
-SCORE_LIVE, SCORE_WAITS, SCORE_FULL, SCORE_FIRST = 200, 150, 100, 5
+SCORE_LIVE, SCORE_WAITS, SCORE_FULL, SCORE_KEPT, SCORE_FIRST = 200, 150, 100, 90, 5
 
 
 class Life:
@@ -29,8 +29,10 @@ class Life:
 
 
 def alone_in(status: dict) -> Life:
-    """What the property has to say of a live guest: it was alone in this generation, or, if it has a standby, in the one before."""
-    return Life(status["life"], status["generation"] - (0 if status["mode"] == "alone" else 1))
+    """What the property has to say of a live guest: it was alone in this generation, or, if it has a standby, in the one before. The host
+    that handed it on keeps it in an earlier generation, until it follows this one."""
+    generation = status.get("stands_on") or status["generation"]
+    return Life(status["life"], generation - (0 if status["mode"] == "alone" else 1))
 
 
 def may_boot(status: dict, life: Life | None, booting: str) -> bool:
@@ -43,7 +45,7 @@ def why_not(status: dict, life: Life | None) -> str | None:
     if not status["full"]:
         return "no full checkpoint stands here"
     frozen = status["role"] == "frozen"
-    if frozen and status["mode"] != "alone":
+    if frozen and status["mode"] != "alone" and not keeps(status):
         return "the guest that was stopped here has a standby, which may have gone on"
     if life is None or not life.name:
         return None
@@ -52,6 +54,11 @@ def why_not(status: dict, life: Life | None) -> str | None:
     if status["generation"] < life.generation + (0 if frozen else 1):
         return f"what stands here is of generation {status['generation']}, and the guest went on alone in {life.generation}"
     return None
+
+
+def keeps(status: dict) -> bool:
+    """Whether the guest stands here just as its standby has it, which isn't live: else it would say so over the link."""
+    return status["role"] == "frozen" and status["link"] == "up" and status["peer"].get("role") == "standby"
 
 
 def behind(true: Life, life: Life | None) -> str | None:

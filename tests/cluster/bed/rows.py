@@ -6,7 +6,7 @@ import subprocess
 import threading
 import time
 
-from bed import disks, network, ordinary
+from bed import disks, handing, network, ordinary
 from bed.guests import COUNTER, WEB
 from bed.machines import EVENTS, TooLate, sent, two_at_once
 
@@ -392,7 +392,7 @@ ROWS = {
     "refused": (ordinary.refused, {"web": 1}), "parameter": (ordinary.parameter, {"web": 1}), "slow": (ordinary.slow, {"web": 1}),
     "promote": (ordinary.promote, {"web": 1}), "by-hand": (ordinary.by_hand, {"web": 1}), "snapshot": (ordinary.snapshot, {"web": 1}),
     "stale": (ordinary.stale, {"web": 1}), "returns": (ordinary.returns, {"web": 1}), "hung": (ordinary.hung, {"web": 1}),
-    "certificates": (ordinary.certificates, {"web": 1}),
+    "certificates": (ordinary.certificates, {"web": 1}), "handing": (handing.handing, {"web": 1}),
 }
 
 
