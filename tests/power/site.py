@@ -128,10 +128,10 @@ class Site:
 
     def round(self) -> str | None:
         """Something befalls the site. What is wrong then."""
-        protected(self.live, self.other, PATIENCE)
-        self.client.wait(self.rng.randrange(1, 20))
         moment = self.rng.choice(self.moments)
         try:
+            protected(self.live, self.other, PATIENCE)
+            self.client.wait(self.rng.randrange(1, 20))
             moment()
             self.client.wait(1)
         except AssertionError as wrong:
