@@ -206,7 +206,10 @@ class Daemon:
 
     def keep(self) -> None:
         """The guest stops, and is kept."""
-        self.live.stop(self.link.now())
+        now = self.link.now()
+        self.live.stop(now)
+        if self.live.own is not None:
+            self.live.end_epoch(now)
         self.live.is_frozen = True
         self.network.down()
         self.log.info("frozen: the guest is kept, and doesn't run")

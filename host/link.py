@@ -301,7 +301,7 @@ class Link:
         elif kind != messages.PING:
             self.attached(kind, body, now)
         elif body:
-            self.meeting.compared(body)
+            self.meeting.compared(body, self.now())
 
     def hear(self, connection: Connection, reading: Any, writing: Any, now: float, pieces: int = 1) -> None:
         """Hears the attached connection, over which so many pieces may have come, each by itself."""

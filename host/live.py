@@ -5,6 +5,7 @@ from collections import OrderedDict
 from host import messages, turning
 from host.dead import Watch, told
 from host.filling import Filling
+from host.log.kept import HEARD_EVERY
 from host.log.own import OwnLog
 from host.looks import Looks
 from host.modes import ALONE, FILLING, MOST_PENDING, PAIRED
@@ -65,6 +66,7 @@ class Live:
         self.fetching = 0  # the checkpoint whose text is being fetched for it
         self.filling: Filling | None = None  # of the standby, from it
         self.heard: tuple[int, int] | None = None  # the last generation and number that the standby has acknowledged
+        self.kept, self.told_log_at = host.kept, 0.0  # when the standby was told what is in this host's own log
         self.late, self.acked_at, self.waited_since = 0.0, now, None
         self.longest = 0.0  # seconds from steps of the guest to the next, though it didn't wait
         self.watch, self.pacer, self.looks, self.stand = Watch(), Pacer(self), Looks(host, self, now), Trouble(self.log)
@@ -125,7 +127,9 @@ class Live:
         return self.mode == PAIRED or self.own is not None and self.is_fetched
 
     def why_stands(self, now: float) -> str | None:
-        """For whom the guest, or what it sends, waits since a while, and what lets it go on; None where it doesn't."""
+        """For whom the guest, or all that it sends, waits since a while, and what lets it go on; None where it doesn't."""
+        if self.own is not None and self.own.failed is not None:
+            return self.kept.told_failed(self.own.failed)
         if not self.pending or now - self.acked_at < STANDS or self.standby is None or self.is_stopped:
             return None
         if self.is_linked and len(self.pending) < MOST_PENDING:
@@ -325,6 +329,11 @@ class Live:
         return (self.is_steady and len(self.pending) < MOST_PENDING - 1 and now - self.epoch_begun >= EARLY and
                 (not self.is_saying or now - self.said_at >= EARLY))
 
+    def end_epoch(self, now: float) -> None:
+        """Of a guest that stands, where a cut is possible: what it did since the last one is in a checkpoint too."""
+        if self.cut is not None and len(self.pending) < MOST_PENDING and not (self.turning is not None and self.turning.left):
+            self.was_cut(now, *self.tell(*self.cut_lines()))
+
     def cut_lines(self):
         """A cut, and the first bytes of its text where they are the next that are sent, or written."""
         number = self.cut + 1
@@ -377,8 +386,7 @@ class Live:
     def has_to_fetch(self) -> bool:
         """For this host's own log."""
         own = self.own
-        return own is not None and own.failed is None and self.cut is not None and self.fetching <= self.cut and (
-            self.fetching > 0 or own.has_room)
+        return own is not None and self.cut is not None and self.fetching <= self.cut and (self.fetching > 0 or own.has_room)
 
     def send(self, now: float) -> None:
         """Fetches and sends what there is to, for a quarter of an epoch at the most."""
@@ -469,7 +477,8 @@ class Live:
             if number == 0:
                 self.own.begin()
             else:
-                self.own.text(number, one.parts[0] if len(one.parts) == 1 else b"".join(one.parts), not one.is_silent)
+                is_urgent = not one.is_silent or self.is_stopped
+                self.own.text(number, one.parts[0] if len(one.parts) == 1 else b"".join(one.parts), is_urgent)
 
     def send_text(self, data: bytes, now: float) -> None:
         number, begin = self.sending, self.sent
@@ -486,6 +495,7 @@ class Live:
         if self.turning is not None and generation == self.turning.before:
             self.turning.heard(number)
         self.heard = generation, number
+        self.kept.heard_of_log(generation, number, now)
         self.release(now)
         if self.filling is not None:
             self.filling.go_on(now)
@@ -497,6 +507,9 @@ class Live:
         if self.filling is not None:
             self.filling.go_on(now)
         own.look(now)
+        if now - self.told_log_at >= HEARD_EVERY and self.is_linked and own.reached is not None:
+            self.told_log_at = now
+            self.link.send(messages.told(messages.PING, self.session, log=own.reached), now)
         if own.is_long and own.basing is None and self.turning is None and self.filling is None:
             self.turn_wanted = True
 

@@ -40,7 +40,15 @@ class Meeting:
         self.said_role, session = host.role, host.branch
         return messages.told(HELLO, NO_SESSION, version=messages.VERSION, name=host.settings.name, instance=host.instance,
                              role=host.role, life=host.life if host.role != "empty" else None, generation=host.generation,
-                             session=session, full=host.full, committed=host.committed, **host.kept.told_to_peer())
+                             session=session, full=host.full, committed=host.committed,
+                             **host.kept.told_to_peer(), **self.own_log())
+
+    def own_log(self) -> dict[str, str]:
+        """By which another live host of this guest knows which of the two went live later."""
+        own = self.host.live.own if self.host.live else None
+        if own is None:
+            return {}
+        return {"branch": own.head.session} | ({"went_from": own.went_from} if own.went_from else {})
 
     def hear(self, connection, kind, session, body, now):
         """A message over a connection that isn't attached."""
@@ -102,7 +110,7 @@ class Meeting:
         why = self.why_no_offer()
         if why is None and self.protecting.left(now):
             why = "the node refused to protect the guest, and is asked again later"
-        if why is None and self.losses.left(now):
+        if why is None and live.own is None and self.losses.left(now):
             why = f"its standby was lost within {SOON_LOST:.0f} s {self.losses.count} times in a row, and is filled again later, each time"
         if why is not None:
             return self.refuse(connection, why)
@@ -205,21 +213,32 @@ class Meeting:
         """Of one life the later generation goes on, and the other host is frozen. Of two lives neither gives way."""
         host, name = self.host, hello["name"]
         mine, other = host.generation, hello["generation"]
-        if host.is_handing_over and hello["life"] == host.life and other > mine:
+        order = self.order(hello)
+        if host.is_handing_over and hello["life"] == host.life and order < 0:
             host.task.is_live()
             return self.refuse(connection, "this host has handed its guest on", "debug")
         if host.is_draining:
             return self.refuse(connection, "this host is busy: a drain is under way", "debug")
-        if hello["life"] != host.life or other == mine:
+        if hello["life"] != host.life or order == 0:
             why = "each with another guest" if hello["life"] != host.life else "each in one generation"
             self.conflict.is_so(f"two hosts are live, this one and {name}, {why}: neither gives way by itself. {KEEP_ONE}", "error")
             return self.refuse(connection, f"two hosts are live, {why}", "debug")
-        if other > mine:
+        if order < 0:
             self.refuse(connection, f"it lives in generation {mine} of this guest, which is earlier, and gives way", "debug")
             return self.give_way(f"{name} lives in generation {other} of this guest, and this host in {mine}")
         why = f"this host lives in generation {mine} of this guest, and {name} in {other}"
         self.conflict.is_so(f"two hosts are live: {why}, which has to give way", "error")
         return self.over_for(connection, hello, f"it lives in generation {mine} of this guest, which is later")
+
+    def order(self, hello: dict) -> int:
+        """Below 0 where another host that is live with this guest is later than this one, above where it is earlier. Which of the two went
+        live behind the other's log is the later, whatever their generations."""
+        own, mine, other = self.host.live.own, self.host.generation, hello["generation"]
+        if own is not None and hello.get("went_from") == own.head.session:
+            return -1
+        if own is not None and own.went_from is not None and hello.get("branch") == own.went_from:
+            return 1
+        return mine - other
 
     def answered_live(self, connection, kind, body, now):
         """What a live host's call is answered: it looks whether the peer is live too."""
@@ -377,8 +396,11 @@ class Meeting:
         """Tells the peer what this host is configured with, and hears the same of it."""
         self.link.send(self.drift.message(self.link.session), now)
 
-    def compared(self, body: bytes) -> None:
+    def compared(self, body: bytes, now: float) -> None:
+        """What the peer says of its configuration, or of its log. Raises Malformed."""
         live = self.host.live
+        if (log := messages.log_of(body)) is not None:
+            return self.host.kept.heard_of_log(*log, now)
         self.drift.told(body, (live.standby if live else self.host.peer)[0])
 
     # The side of a host that isn't live.

@@ -12,7 +12,8 @@ before there is one), and its body:
                 the length is exact; of number 0 it may be more with those before, since it is known only once the end was fetched
     8 ACK       the standby: generation and number (8 bytes each) of the last commit
     9 PING      both, where nothing else was said for a quarter of `link_ms`. With a body, once both are joined: JSON, what the host is
-                configured with that has to be the same at both (host/drift.py)
+                configured with that has to be the same at both (host/drift.py); or, as `log`, the generation and the number up to which
+                who is live has its own log on its disk
     10 GO_LIVE  who was live, and has drained and stopped: generation and number of the last checkpoint
     11 LIVE     who was told so: it is live, alone, from that checkpoint on. Only now the other gives the guest up
     12 STAYS    who was told so: JSON, why it isn't live. The other one's guest goes on
@@ -132,6 +133,18 @@ def fields(kind, body):
         if is_number and not 0 <= value < 1 << 62 or isinstance(value, str) and len(value) > 256:
             raise Malformed(f"a body whose {name} is out of range")
     return found
+
+
+def log_of(body: bytes) -> tuple[int, int] | None:
+    """The generation and the number that a ping has of its host's log, if it does."""
+    try:
+        found = json.loads(body)
+    except (ValueError, RecursionError):
+        return None
+    log = found.get("log") if isinstance(found, dict) else None
+    if not isinstance(log, list) or [type(one) for one in log] != [int, int] or not all(0 <= one < 1 << 62 for one in log):
+        return None
+    return log[0], log[1]
 
 
 def numbers(body):

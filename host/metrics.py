@@ -70,10 +70,13 @@ def text(host):
         counts.begun_again)
     one("remus_links_total", "counter", "Links to the peer that came up.", counts.links)
     kept, log = host.kept, host.kept.keeper.log
-    one("remus_log_bytes", "gauge", "Bytes of the standby's log, beside its base.", log.end if log else 0)
-    one("remus_log_syncs_total", "counter", "Syncs of the standby's log.", kept.keeper.syncs)
+    one("remus_log_bytes", "gauge", "Bytes of the log, beside its base.", log.end if log else 0)
+    one("remus_log_syncs_total", "counter", "Syncs of the log.", kept.keeper.syncs)
     one("remus_log_sync_seconds_total", "counter", "Time that these took.", float(kept.keeper.sync_seconds))
-    one("remus_log_failures_total", "counter", "Times that the standby's log failed, or couldn't be begun.", kept.failures)
+    one("remus_log_failures_total", "counter", "Times that a log failed, or couldn't be begun.", kept.failures)
+    one("remus_log_failed", "gauge", "1 where the log that is written failed.", int(kept.keeper.failed is not None))
+    one("remus_log_protects", "gauge", "1 where a live host keeps a log of its own, without which it lets nothing out.",
+        int(live is not None and live.own is not None))
     one("remus_log_refused", "gauge", "1 where the log that was here at the daemon's start is refused.", int(kept.refused is not None))
     one("remus_node_memory_bytes", "gauge", "Memory of the node's process.", host.node.memory())
     one("remus_daemon_memory_bytes_max", "gauge", "The most memory that the daemon had.",

@@ -7,6 +7,7 @@ from types import FrameType
 
 from host.modes import PAIRED
 from host.node import FAULTS, SHIELDED
+from host.stopping import Stop
 from host.tasks import Drain
 
 ONE = 0.3  # seconds: what comes within them is one signal, which timeout(1) and others send to a process and to its group
@@ -67,18 +68,43 @@ class Signals:
             host.task.has_to_end()
             asked = host.task.answer
             host.task.answer = lambda answer: (asked(answer), self.is_over(answer))
-        elif host.role == "live" and host.live.mode == PAIRED and host.task is None:
+        elif host.role == "live" and host.live.mode == PAIRED and host.task is None and (host.live.own is None or host.live.is_linked):
             host.log.info(f"{name}: {host.live.standby[0]} gets the guest first, within {host.settings.drain_ms * 1000:.0f} ms; this host "
                           "ends at once by a second signal")
             host.task = Drain(host, host.settings.drain_ms, True, False, self.is_over, now, ends=True)
             host.turn_task(now)
         else:
-            host.end()
+            self.keep_guest(name, now)
 
     def is_over(self, answer: dict) -> None:
         """A drain is over."""
+        host = self.host
+        if host.live is not None and host.live.own is not None:
+            host.log.warning("the guest wasn't handed on")
+            return self.keep_guest("told to end", host.link.now())
         if not answer["ok"]:
-            self.host.log.warning("the guest wasn't handed on: what this host held is gone, and its standby can be promoted")
+            host.log.warning("the guest wasn't handed on: what this host held is gone, and its standby can be promoted")
+        host.end()
+
+    def keep_guest(self, name: str, now: float) -> None:
+        """This host ends, once what it has of the guest is in its own log, if it keeps one."""
+        host = self.host
+        if host.task is not None:
+            host.task.fail("this host is told to end")
+        if host.live is None or host.live.own is None:
+            return host.end()
+        host.log.info(f"{name}: nobody is there to hand the guest to; it stops, and is kept in this host's log")
+        host.task = Stop(host, host.settings.drain_ms, self.is_kept, now)
+        host.turn_task(now)
+
+    def is_kept(self, wrong: str | None) -> None:
+        """The guest is in the log, or isn't."""
+        live, log = self.host.live, self.host.log
+        if wrong is None:
+            log.info(f"the guest is kept in this host's log, up to checkpoint {live.cut} of generation {live.generation}: started again, this "
+                     "host can go on from it")
+        else:
+            log.error(wrong)
         self.host.end()
 
     @staticmethod

@@ -104,6 +104,8 @@ class Verbs:
         if host.live is not None:
             return None
         if not host.full:
+            if host.standby is not None and host.standby.committed is not None:
+                return refusal("NoCheckpoint", "this host lacks some of what the guest has let out: its live host fills it, or another log has it")
             refused = f": the log is refused, {host.kept.refused}" if host.kept.refused else ""
             return refusal("NoCheckpoint", f"no full checkpoint of the guest is here{refused}")
         why = host.kept.refuses(without_peer)

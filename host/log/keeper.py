@@ -12,6 +12,7 @@ from host.log.disk import Disk
 from host.log.format import Head, LogBehind, Rotten
 from host.log.past import Past
 from host.log.reading import Found, links, newest
+from host.log.witness import Witness
 from host.log.writer import BaseFile, LogFile, Mark, begun, continued, tidy
 
 MARK_EVERY = 1.0  # seconds
@@ -25,7 +26,7 @@ class Keeper:
     isn't needed any more is kept for so many seconds."""
 
     def __init__(self, disk: Disk, folder: Path, keep: float = 0) -> None:
-        self.disk, self.folder = disk, Path(folder)
+        self.disk, self.folder, self.witness = disk, Path(folder), Witness(disk, folder)
         self.past = Past(disk, self.folder, keep) if keep else None
         self.log: LogFile | None = None
         self.base: BaseFile | None = None
@@ -102,6 +103,10 @@ class Keeper:
     def end_all(self) -> None:
         """No log that is in the folder is ever loaded again."""
         self.give(self.end_what_is_here)
+
+    def hear(self, life: str, generation: int, number: int) -> None:
+        """What is on the peer's disk."""
+        self.give(self.write_heard, life, generation, number, is_urgent=False)
 
     def give(self, *job, is_urgent: bool = True) -> None:
         if self.thread is None:
@@ -232,6 +237,12 @@ class Keeper:
     def tidy_behind_base(self, generation: int, kept: set[int]) -> None:
         if f"{generation}.base" in self.disk.names(self.folder):
             self.tidy(kept)
+
+    def write_heard(self, *heard) -> None:
+        try:
+            self.witness.put(*heard)
+        except OSError:
+            pass  # it is a witness and no more: what the log needs of the disk tells whether that fails
 
     def write_joined(self) -> None:
         self.log.join()

@@ -20,6 +20,7 @@ WORKED = 600.0  # seconds, after which a log that fails isn't taken for one that
 MEBIBYTE = 1 << 20
 LOW = 64 * MEBIBYTE  # bytes of room on the disk, below which that is told
 LOOK_EVERY = 10.0  # seconds
+HEARD_EVERY = 1.0  # seconds, from one time that is written down what is on the peer's disk to the next
 GO_ON = "go-on"  # of log_on_failure
 MORE = 1 << 62  # than any number of a checkpoint: what a frozen host holds is of its guest as it stopped
 
@@ -99,6 +100,9 @@ class Kept:
         self.backoff, self.prepared_at = Backoff(), 0.0
         self.is_low, self.looked_at, self.failures = False, 0.0, 0
         self.peer: dict | None = None  # what the peer said last of what it holds
+        self.peer_log: tuple[str, int, int] | None = None  # the life, generation and number up to which it has it on its disk
+        self.wrote_heard_at = -HEARD_EVERY
+        self.witness = self.keeper.witness.read() if self.keeps else None  # what this host had heard of that before its start
 
     def new_keeper(self) -> Keeper:
         return Keeper(self.disk, self.folder, self.host.settings.log_keep)
@@ -190,6 +194,9 @@ class Kept:
         """The guest runs here from now on, and this host's own log goes on with it, that of the standby which it was, or another one. Where
         none is kept what is here is over before anything of it is let out. Raises Refused."""
         self.found, now = None, self.host.link.now()
+        if self.keeper.failed is not None:
+            self.host.log.warning(f"{self.left()}: another one is begun")
+            self.has_said_failed, logged = False, None
         self.outlives(live.generation)
         if self.is_both and logged is not None:
             live.go_on_with_log(self.going_on(logged), now)
@@ -231,26 +238,42 @@ class Kept:
             return
         self.has_said_failed = True
         self.failures += 1
-        told = f"the log of this host in {self.folder} failed, {own.failed}"
+        self.host.log.error(self.told_failed(own.failed))
         if self.host.settings.log_on_failure == GO_ON:
-            self.host.log.error(f"{told}: the guest goes on without it, as log_on_failure says, and what it lets out without a standby is on "
-                                "no disk")
             self.outlives(live.generation)
             live.give_up_log(now)
-        else:
-            self.host.log.error(f"{told}: the guest lets out nothing more, as log_on_failure says. Hand it to the standby (drain --promote), or "
-                                "promote that; without one mend the disk, and restart this daemon: it goes on from its log")
+
+    def told_failed(self, why: str) -> str:
+        """What a live host says whose own log failed."""
+        told = f"the log of this host in {self.folder} failed, {why}"
+        if self.host.settings.log_on_failure == GO_ON:
+            return f"{told}: the guest goes on without it, as log_on_failure says, and what it lets out without a standby is on no disk"
+        return (f"{told}: the guest lets out nothing more, as log_on_failure says. Hand it to the standby (drain --promote); without one mend "
+                "the disk, and restart this daemon: the guest goes on from its log")
 
     def told_to_peer(self) -> dict:
-        """What a greeting says besides: up to which generation logs of a life are stale, where this host knows of one."""
+        """What a greeting says besides: up to which generation logs of a life are stale, and what was heard of the other host's log."""
         life, generation = self.host.state.outlives()
-        return {} if life is None else {"outlived_life": life, "outlived_generation": generation}
+        outlived = {} if life is None else {"outlived_life": life, "outlived_generation": generation}
+        heard = self.witness
+        return outlived | ({} if heard is None else dict(zip(("heard_life", "heard_generation", "heard_number"), heard)))
+
+    def heard_of_log(self, generation: int, number: int, now: float) -> None:
+        """So much is on the peer's disk."""
+        self.peer_log = self.host.life, generation, number
+        if self.witness is None or self.witness[0] != self.host.life or self.witness < self.peer_log:
+            self.witness = self.peer_log
+        if self.keeps and now - self.wrote_heard_at >= HEARD_EVERY:
+            self.wrote_heard_at = now
+            self.keeper.hear(*self.peer_log)
 
     # Before a promotion.
 
     def heard(self, hello: dict) -> None:
         """What the peer says of what it holds."""
         self.peer = hello
+        if hello["role"] == "standby" and hello["life"] == self.host.life and hello["committed"] is not None:
+            self.peer_log = hello["life"], hello["generation"], hello["committed"]
 
     def attached(self) -> None:
         """The live host has its standby again."""
@@ -269,7 +292,17 @@ class Kept:
             if theirs > mine:
                 upto = "" if theirs[1] == MORE else f" up to checkpoint {theirs[1]}"
                 return "Stale", f"{peer['name']} holds generation {theirs[0]} of this guest{upto}, and this host {mine[0]} up to {mine[1]}"
-        return None if without_peer else self.outlived()
+        return None if without_peer else self.behind(mine) or self.outlived()
+
+    def behind(self, mine: tuple[int, int]) -> tuple[str, str] | None:
+        """Where the peer had heard of more of this log than there is."""
+        peer = self.peer
+        heard = peer.get("heard_generation", 0), peer.get("heard_number", 0)
+        if peer.get("heard_life") != self.found.head.life or heard <= mine:
+            return None
+        return "LogBehind", (f"{peer['name']} had heard that this log was synced up to checkpoint {heard[1]} of generation {heard[0]}, and it "
+                             f"ends at {mine[1]} of {mine[0]}: its disk doesn't keep what it says is synced. Promote {peer['name']}, if it can "
+                             "be; else --without-peer goes on from here, and takes back what clients were given since")
 
     def outlived(self) -> tuple[str, str] | None:
         """Where the peer has let out more than the log has, and lost it."""
@@ -291,10 +324,13 @@ class Kept:
         """None where no log is kept and none is refused."""
         if not self.keeps and self.refused is None:
             return None
-        log = self.keeper.log
+        log, live, peer = self.keeper.log, self.host.live, self.peer_log
+        mine, theirs = (log.generation, log.number) if log else None, peer[1:] if peer and peer[0] == self.host.life else None
         return {"generation": log.generation if log else None, "number": log.number if log else None,
                 "synced": None if self.keeper.synced_at is None else at(round(self.keeper.synced_at * 1000)),
-                "over": log.is_over if log else None, "bytes": log.end if log else None, "recovered": self.found is not None,
+                "over": log.is_over if log else None, "bytes": log.end if log else None, "joined": log.is_joined if log else None,
+                "protects": live is not None and live.own is not None, "recovered": self.found is not None,
+                "peer_generation": theirs and theirs[0], "peer_number": theirs and theirs[1], "newer": newer(mine, theirs),
                 "failed": self.keeper.failed, "refused": self.refused}
 
     def look(self, now: float) -> None:
@@ -307,12 +343,20 @@ class Kept:
         except OSError:
             return
         if (is_low := room < LOW) and not self.is_low:
-            self.host.log.warning(f"the disk of {self.folder} has {room // MEBIBYTE} MiB left: once it is full, this host is no standby "
-                                  "any more")
+            then = "this host is no standby any more" if self.host.live is None else "its guest " + (
+                "goes on without a log" if self.host.settings.log_on_failure == GO_ON else "lets out nothing more")
+            self.host.log.warning(f"the disk of {self.folder} has {room // MEBIBYTE} MiB left: once it is full, {then}")
         self.is_low = is_low
 
     def close(self) -> None:
         self.keeper.close()
+
+
+def newer(mine: tuple[int, int] | None, theirs: tuple[int, int] | None) -> str | None:
+    """Whose log has more, as far as this host knows."""
+    if mine is None or theirs is None:
+        return None
+    return "same" if mine == theirs else "this" if mine > theirs else "peer"
 
 
 def at(when: int) -> str:
