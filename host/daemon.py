@@ -295,7 +295,9 @@ class Daemon:
     def heard_by_live(self, kind: int, body: bytes, now: float) -> bool:
         """Whether it is one that a host with a guest takes."""
         if kind == messages.ACK:
-            self.live.acknowledge(*messages.numbers(body), now)
+            generation, number = messages.numbers(body)
+            self.kept.heard_of_log(generation, number, now)
+            self.live.acknowledge(generation, number, now)
         elif kind == messages.LONG:
             self.live.turn_wanted = True
         elif self.keeps and kind == messages.TURN:

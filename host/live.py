@@ -66,7 +66,7 @@ class Live:
         self.fetching = 0  # the checkpoint whose text is being fetched for it
         self.filling: Filling | None = None  # of the standby, from it
         self.heard: tuple[int, int] | None = None  # the last generation and number that the standby has acknowledged
-        self.kept, self.told_log_at = host.kept, 0.0  # when the standby was told what is in this host's own log
+        self.told_log_at = 0.0  # when the standby was told what is in this host's own log
         self.late, self.acked_at, self.waited_since = 0.0, now, None
         self.longest = 0.0  # seconds from steps of the guest to the next, though it didn't wait
         self.watch, self.pacer, self.looks, self.stand = Watch(), Pacer(self), Looks(host, self, now), Trouble(self.log)
@@ -129,7 +129,7 @@ class Live:
     def why_stands(self, now: float) -> str | None:
         """For whom the guest, or all that it sends, waits since a while, and what lets it go on; None where it doesn't."""
         if self.own is not None and self.own.failed is not None:
-            return self.kept.told_failed(self.own.failed)
+            return self.own.kept.told_failed(self.own.failed)
         if not self.pending or now - self.acked_at < STANDS or self.standby is None or self.is_stopped:
             return None
         if self.is_linked and len(self.pending) < MOST_PENDING:
@@ -495,7 +495,6 @@ class Live:
         if self.turning is not None and generation == self.turning.before:
             self.turning.heard(number)
         self.heard = generation, number
-        self.kept.heard_of_log(generation, number, now)
         self.release(now)
         if self.filling is not None:
             self.filling.go_on(now)
