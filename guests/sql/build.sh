@@ -89,7 +89,7 @@ cp -r "$here" "$room/sql"
 cp -r "$here/../server" "$here/../lib" "$room"
 cd "$room"
 sources="secret.c server/server.c server/disk.c server/network.c server/reopen.c one/sqlite3.c"
-for name in guest log vfs locks database text settings stacks turns patterns functions digest password scram statement lexer dialect session work query \
+for name in guest memory log vfs locks database text settings stacks turns patterns functions digest password scram statement lexer dialect session work query \
     rows messages parameters types trigger extended copy_words copy_rows copy postgres request table page door cksum pages dump whole http connections \
     tokens escapes casts translate arrays sets expressions declarations catalog catalog_queries postgres_sql; do
     sources="$sources sql/$name.c"

@@ -411,15 +411,19 @@ static enum outcome split(struct copy *copy, char *row, uint32_t length, struct 
     return is_header ? match_names(copy, failure) : ENDED;
 }
 
+/* What came can't be asked for again, where a transaction of its own would have to begin anew. */
+static enum outcome collides(const struct session *session, struct failure *failure) {
+    return session->wants_room ? FAILED : refuse(failure, "40001", "another client's transaction stands in the way of this one");
+}
+
 static enum outcome write_row_of(struct session *session, struct copy *copy, char *row, uint32_t length, struct failure *failure) {
     enum outcome outcome = copy->is_split ? ENDED : split(copy, row, length, failure);
     if (outcome != ENDED || !copy->is_split)
         return outcome;
-    set_failure(failure, "40001", "another client's transaction stands in the way of this one");
     outcome = write_fields(session, copy, failure);
     copy->is_split = outcome == WAITS;
     copy->count += outcome == ENDED;
-    return outcome == COLLIDES ? FAILED : outcome;
+    return outcome == COLLIDES ? collides(session, failure) : outcome;
 }
 
 /* What stands before the rows of the binary format: flags, of which none may be set, and an extension. 0: it hasn't come whole. */

@@ -217,7 +217,7 @@ void spell(struct statement *statement, struct text *to) {
     if (statement->kind != PLAIN)
         return;
     text_cut(to, 0);
-    for (unsigned i = 0; i < sizeof forms / sizeof forms[0]; i++)
+    for (unsigned i = 0; strchr("dtvcaDTVCA", *at) != NULL && i < sizeof forms / sizeof forms[0]; i++)
         if (takes(&at, forms[i].word)) {
             forms[i].spell(statement, to);
             break;

@@ -66,11 +66,15 @@ static int is_escaped(const char *at, const char *begin) {
 
 /* After the next semicolon that isn't within quotes, or at the end. */
 static const char *after_semicolon(const char *at) {
-    for (const char *begin = at; *at != '\0' && *at != ';';) {
-        const char *after = is_escaped(at, begin) ? after_escaped(at + 1) : after_quoted(at);
+    static const uint8_t ends_run[256] = {['\0'] = 1, [';'] = 1, ['\''] = 1, ['"'] = 1, ['`'] = 1, ['['] = 1, ['-'] = 1, ['/'] = 1};
+    for (const char *begin = at;;) {
+        while (!ends_run[(uint8_t)*at])
+            at++;
+        if (*at == '\0' || *at == ';')
+            return *at == '\0' ? at : at + 1;
+        const char *after = *at == '\'' && at > begin && is_escaped(at - 1, begin) ? after_escaped(at) : after_quoted(at);
         at = after == at ? at + 1 : after;
     }
-    return *at == '\0' ? at : at + 1;
 }
 
 /* The word that says what a statement with WITH does: the first of these that isn't within parentheses. */

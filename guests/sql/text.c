@@ -1,5 +1,6 @@
 #include "text.h"
 
+#include <stddef.h>
 #include <string.h>
 
 #include "sqlite3.h"
@@ -46,8 +47,14 @@ void add_bytes(struct text *text, const void *bytes, uint32_t count) {
 void add(struct text *text, const char *more) { add_bytes(text, more, (uint32_t)strlen(more)); }
 
 void add_number(struct text *text, int64_t number) {
-    char digits[24];
-    add(text, sqlite3_snprintf(sizeof digits, digits, "%lld", number));
+    char digits[24], *at = digits + sizeof digits;
+    uint64_t left = number < 0 ? -(uint64_t)number : (uint64_t)number;
+    do
+        *--at = (char)('0' + left % 10);
+    while ((left /= 10) > 0);
+    if (number < 0)
+        *--at = '-';
+    add_bytes(text, at, (uint32_t)(digits + sizeof digits - at));
 }
 
 uint32_t character(const char *bytes, uint32_t count) {
@@ -64,7 +71,27 @@ uint32_t character(const char *bytes, uint32_t count) {
     return is_beyond ? 0 : length;
 }
 
+typedef uint64_t __attribute__((may_alias)) word;
+
+/* Passes over characters of one byte, eight at a time. */
+static const char *after_ascii(const char *at, const char *end) {
+    const word low = 0x0101010101010101u, high = 0x8080808080808080u;
+    for (; (uintptr_t)at % sizeof low != 0 && at < end && *at > 0; at++)
+        ;
+    if ((uintptr_t)at % sizeof low != 0)
+        return at;
+    for (; end - at >= (ptrdiff_t)sizeof low; at += sizeof low) {
+        word bytes = *(const word *)at;
+        if (((bytes | (bytes - low)) & high) != 0)
+            break;
+    }
+    return at;
+}
+
 int is_utf8(const char *bytes, uint32_t count) {
+    const char *end = bytes + count;
+    bytes = after_ascii(bytes, end);
+    count = (uint32_t)(end - bytes);
     for (uint32_t length; count > 0; bytes += length, count -= length)
         if (bytes[0] == '\0' || (length = character(bytes, count)) == 0)
             return 0;

@@ -47,9 +47,10 @@ class Built:
         self.checks = self.sanitizers()
         parts = {*FILES, *UNITS, *SESSIONS, *HOSTS}
         with ThreadPoolExecutor(4) as pool:
-            list(pool.map(self.compile, [*parts, "power", "served", "units"]))
+            list(pool.map(self.compile, [*parts, "power", "served", "units", "bytes"]))
             list(pool.map(lambda part: self.compile(part, "checked"), [*parts, "fed"]))
         self.link("units", [*UNITS, "units"])
+        self.link("bytes", ["bytes"])
         self.link("power", [*FILES, *HOSTS, "power"])
         self.link_served("")
         self.link_served("secret")

@@ -8,6 +8,7 @@
 #include "../../guests/sql/locks.h"
 #include "../../guests/sql/request.h"
 #include "../../guests/sql/statement.h"
+#include "../../guests/sql/text.h"
 
 #define MOST 65536
 #define CONNECTIONS 4
@@ -33,6 +34,18 @@ static void print(const uint8_t *bytes, uint32_t count) {
 static void sums(char *words[]) {
     uint32_t count = bytes_of(words[0], one);
     printf("%u\n", cksum_end(cksum(0, one, count), count));
+}
+
+static void texts(const char *name, char *words[]) {
+    struct text text = {.most = MOST};
+    if (strcmp(name, "number") == 0) {
+        add_number(&text, strtoll(words[0], NULL, 10));
+        printf("%.*s\n", (int)text.length, text.bytes);
+    } else {
+        uint32_t count = bytes_of(words[0], one);
+        printf("%d\n", is_utf8((const char *)one + atoi(words[1]), count - (uint32_t)atoi(words[1])));
+    }
+    text_drop(&text);
 }
 
 /* All rounds, some at a time. */
@@ -124,6 +137,8 @@ int main(void) {
             statements(words);
         else if (strcmp(name, "request") == 0)
             requests(words);
+        else if (strcmp(name, "number") == 0 || strcmp(name, "utf8") == 0)
+            texts(name, words);
         else if (strcmp(name, "cksum") == 0)
             sums(words);
         else if (strstr(name, "base64") != NULL)

@@ -133,6 +133,29 @@ def statements(units: Units) -> Iterator[tuple[str, str | None]]:
         yield f"{text!r} is blank", differs(units.ask("statement", text.encode().hex() or "zz")[-1], "1")
 
 
+def is_text(data: bytes) -> bool:
+    """Whether it is UTF-8 without a zero."""
+    try:
+        return "\0" not in data.decode()
+    except UnicodeDecodeError:
+        return False
+
+
+def texts(units: Units) -> Iterator[tuple[str, str | None]]:
+    rng, wrong = random.Random(4), None
+    for number in (0, 7, -7, 10, -2**63, 2**63 - 1, *(rng.randrange(-2**63, 2**63) for _ in range(20))):
+        wrong = wrong or differs(units.ask("number", number), str(number))
+    yield "numbers", wrong
+    for _ in range(1500):
+        parts = [rng.choice(["a", "é", "漢", "𝄞", "\x7f", "word after word"]).encode() for _ in range(rng.randrange(12))]
+        data = bytearray(b"".join(parts))
+        if data and rng.random() < 0.5:
+            data[rng.randrange(len(data))] = rng.choice([0, 0x80, 0xC1, 0xED, 0xFF, 0x41, rng.randrange(256)])
+        skipped = rng.randrange(len(data) + 1)
+        wrong = wrong or differs(units.ask("utf8", data.hex() or "zz", skipped), str(int(is_text(bytes(data[skipped:])))))
+    yield "what is UTF-8", wrong
+
+
 def requests(units: Units) -> Iterator[tuple[str, str | None]]:
     for text, wanted in REQUESTS:
         came = units.ask("request", text.encode().hex() or "zz")
@@ -193,6 +216,8 @@ def locks(units: Units) -> Iterator[tuple[str, str | None]]:
 
 def tests(built: Built) -> Iterator[tuple[str, str | None]]:
     units = Units(built)
-    for part in (digests, statements, requests, locks):
+    for part in (digests, texts, statements, requests, locks):
         yield from part(units)
     units.end()
+    ran = subprocess.run([built.room / "bytes"], stdout=subprocess.PIPE, text=True)
+    yield "bytes of memory", differs(ran.stdout, "400000 calls\n")
