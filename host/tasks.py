@@ -1,13 +1,11 @@
-"""What takes more than a turn of the loop: a drain, a snapshot, and a promotion where the peer seems to be live. One may be under way at a
-time."""
+"""What takes more than a turn of the loop: a drain, and a promotion where the peer seems to be live; and live_snapshot.py. One may be under way at
+a time."""
 from collections.abc import Callable
 from typing import Any, Protocol
 
-from host.files import WholeFile
 from host.modes import MOST_PENDING
 from host.meeting import go_live
 from host.node import Refused
-from host.snapshot import Header, check_replaced
 
 Answer = dict[str, Any]
 Tell = Callable[[Answer], None]
@@ -199,70 +197,6 @@ class Promotion:
         """Something went wrong that nobody expected."""
         self.host.task = None
         self.answer(refusal("Internal", why))
-
-
-class Save:
-    """The text of a full checkpoint goes into a file, behind a header with its length and sum, piece by piece while the guest goes on; then
-    the guest is alone again. `text` is the live host's pending checkpoint, whose length is known once all of it is fetched."""
-
-    name = "a snapshot is being saved"
-
-    def __init__(self, host: Any, path: str, answer: Tell, now: float) -> None:
-        """Raises OSError, and Refused."""
-        self.host, self.live, self.answer, self.path = host, host.live, answer, path
-        check_replaced(path)
-        self.whole = WholeFile(path)
-        self.header, self.done = Header(), 0
-        try:
-            self.whole.file.write(self.header.room())
-            self.live.protect(now)
-        except Exception:
-            self.whole.discard()
-            raise
-        self.text = self.live.pending[0]
-
-    def due(self, now: float) -> float:
-        return now
-
-    def turn(self, now: float) -> None:
-        end = now + self.live.epoch / 4
-        try:
-            while self.done < self.text.total and now < end:
-                self.take(self.live.fetched(0, self.done, now))
-                now = self.host.link.now()
-            if self.done >= self.text.total:
-                self.finish()
-        except OSError as error:
-            self.give_up(refusal("File", f"{self.path} can't be written: {error.strerror}"))
-        except Refused as refused:
-            self.give_up(refusal("Node", f"the node refused: {refused}"))
-
-    def take(self, data: bytes) -> None:
-        self.header.take(data)
-        self.done += self.whole.file.write(data)
-
-    def finish(self) -> None:
-        self.whole.file.seek(0)
-        header = self.header.spelled()
-        self.whole.file.write(header)
-        self.whole.place()
-        count = len(header) + self.done
-        self.host.log.info(f"saved {self.path}: {count} bytes")
-        self.end()
-        self.answer(self.host.control.did(f"saved {count} bytes as {self.path}", bytes=count))
-
-    def end(self) -> None:
-        self.host.task = None
-        self.live.alone(self.host.link.now())
-
-    def give_up(self, answer: Answer) -> None:
-        self.whole.discard()
-        self.end()
-        self.answer(answer)
-
-    def fail(self, why: str) -> None:
-        """Something went wrong that nobody expected."""
-        self.give_up(refusal("Internal", why))
 
 
 def refusal(name: str, why: str) -> Answer:

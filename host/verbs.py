@@ -6,11 +6,12 @@ from typing import Any
 from host import metrics, requests
 from host.boot import BadGuest
 from host.guarded import guarded
+from host.live_snapshot import Save
 from host.modes import ALONE, PAIRED
 from host.node import Refused
 from host.saving import Saving
 from host.snapshot import NoBoot, NotASnapshot, boot_over, load
-from host.tasks import Answer, Asker, Drain, Promotion, Save, Tell, refusal
+from host.tasks import Answer, Asker, Drain, Promotion, Tell, refusal
 
 
 class Once:
