@@ -561,10 +561,11 @@ class Live:
 
     # Attachments.
 
-    def protect(self, now):
-        """A full checkpoint is cut, for a standby, a log or a file: the next generation begins."""
+    def protect(self, now, is_spent=False):
+        """A full checkpoint is cut, for a standby, a log or a file: the next generation begins. It is a spent one where no other host has
+        anything of it, as of a file."""
         answer = self.node.ask("protect")
-        self.generation, self.mode, self.looks.spent = answer.number(1), FILLING, 0
+        self.generation, self.mode, self.looks.spent = answer.number(1), FILLING, self.looks.spent + 1 if is_spent else 0
         self.pending = OrderedDict({0: Pending(answer.number(2), False, now)})
         self.to_look, self.most = looks(self.pages), answer.number(2)
         self.cut, self.acked, self.sending, self.sent, self.is_fetched, self.fetching = 0, None, 0, 0, False, 0

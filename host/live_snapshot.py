@@ -76,7 +76,7 @@ class Save:
         self.host, self.live, self.answer, self.path = host, host.live, answer, path
         self.writing, self.done = Writing(path), 0
         try:
-            self.live.protect(now)
+            self.live.protect(now, is_spent=True)
         except Exception:
             self.writing.leave()
             raise

@@ -12,7 +12,8 @@ CUTS = 3  # checkpoints: one more is pending, and no fifth may be
 
 class Looks:
     """Each begins a full checkpoint, which nobody gets, cuts a few behind it, a step apart, reads the guest's registers there, and gives
-    all of it up. That takes the node a generation. `spent` counts those, since no attachment had them: nobody is told of them."""
+    all of it up. That takes the node a generation, as a snapshot does. `spent` counts those, since no attachment had them: nobody is told of
+    them."""
 
     def __init__(self, host: "Daemon", live: "Live", now: float) -> None:
         self.host, self.live, self.spent = host, live, 0
