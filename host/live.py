@@ -130,7 +130,7 @@ class Live:
         """For whom the guest, or all that it sends, waits since a while, and what lets it go on; None where it doesn't."""
         if self.own is not None and self.own.failed is not None:
             return self.own.kept.told_failed(self.own.failed)
-        if not self.pending or now - self.acked_at < STANDS or self.standby is None or self.is_stopped:
+        if not self.pending or now - self.acked_at < STANDS or self.standby is None or not self.needs_standby or self.is_stopped:
             return None
         if self.is_linked and len(self.pending) < MOST_PENDING:
             return None
