@@ -9,6 +9,7 @@ SECTOR, BLOCK = 512, 4096
 ROOM = SECTOR - 4  # bytes of a record in a sector, beside the sector's sum
 BLOCK_ROOM = BLOCK // SECTOR * ROOM
 SUM = struct.Struct("<I")
+A_SECTOR, A_ROOM = struct.Struct("<I508s"), struct.Struct("508s")
 HEADER = struct.Struct("<4sIQQQQQ16s")  # magic, kind, generation, number, when, length, synced, chain
 MAGIC, BASE_MAGIC, MARK_MAGIC = b"RMLG", b"RMLB", b"RMLM"
 HEAD, TEXT, OVER, JOINED = 1, 2, 3, 4
@@ -75,11 +76,18 @@ def chained(before: bytes, kind: int, generation: int, number: int, when: int, s
 def spelled(body: bytes, seed: int, sector: int) -> bytes:
     """A record's bytes as sectors with their sums, up to the end of a block; `sector` is the first one's number in the file."""
     body += bytes(-len(body) % BLOCK_ROOM)
-    parts = []
-    for number, at in enumerate(range(0, len(body), ROOM), sector):
-        content = body[at:at + ROOM]
-        parts += SUM.pack(sector_sum(content, seed, number)), content
-    return b"".join(parts)
+    return b"".join([A_SECTOR.pack(zlib.crc32(content, number & 0xffffffff) or 1, content)
+                     for number, (content,) in enumerate(A_ROOM.iter_unpack(body), seed + sector)])
+
+
+def content_of(raw: bytes, seed: int, sector: int) -> bytes | None:
+    """The bytes that whole sectors have, the first one's number in the file being that; None where one isn't as it was written."""
+    found = []
+    for number, (stated, content) in enumerate(A_SECTOR.iter_unpack(raw), seed + sector):
+        if stated != (zlib.crc32(content, number & 0xffffffff) or 1):
+            return None
+        found.append(content)
+    return b"".join(found)
 
 
 def size_of(length: int) -> int:

@@ -11,7 +11,7 @@ from host.log.keeper import Keeper
 from host.log.logged import Logged, Part, parts_of
 from host.log.own import OwnLog
 from host.log.reading import Found, links, newest
-from host.log.recovery import recovered
+from host.log.recovery import node_of
 from host.node import Node, NodeEnded
 from host.text import COUNT, MOST_PAGE, RECORDS_AT, SECTOR
 
@@ -120,8 +120,8 @@ class Kept:
                 log.warning(f"log is none: the log in {self.folder}, of generation {found.generation} up to checkpoint {found.number}, "
                             "isn't loaded")
                 return None
-            node = recovered(self.host.settings.node, self.disk, self.folder, found)
-            self.parts = parts_of(links(self.disk, self.folder, found))
+            made = links(self.disk, self.folder, found)
+            node, self.parts = node_of(self.host.settings.node, self.disk, self.folder, made), parts_of(made)
         except (Rotten, LogBehind, NodeEnded, OSError) as error:
             self.refused = f"{type(error).__name__}: {error}"
             log.error(f"the log in {self.folder} is refused, and this host is empty: {self.refused}")

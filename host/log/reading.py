@@ -6,7 +6,7 @@ from typing import NamedTuple
 
 from host.log.disk import Disk
 from host.log.format import (BASE_HEAD, BASE_MAGIC, BLOCK, FIRST, HEAD, HEADER, JOINED, MAGIC, MARK, MARK_MAGIC, OVER, SECTOR, TEXT, Head,
-                             LogBehind, Record, Rotten, chained, generation_of, is_as_written, read_head, seed_of, size_of)
+                             LogBehind, Record, Rotten, chained, content_of, generation_of, is_as_written, read_head, seed_of, size_of)
 
 PIECE = 1 << 20  # bytes that are read at a time
 KNOWN = {HEAD, TEXT, OVER, JOINED}
@@ -69,10 +69,8 @@ class LogReader:
         if magic != MAGIC or place + size > self.size:
             return None
         raw = first + self.disk.read(self.file, size - BLOCK, place + BLOCK)
-        sectors = [raw[at:at + SECTOR] for at in range(0, size, SECTOR)]
-        if not all(is_as_written(sector, self.seed, number_of) for number_of, sector in enumerate(sectors, place // SECTOR)):
+        if (body := content_of(raw, self.seed, place // SECTOR)) is None:
             return None
-        body = b"".join(sector[4:] for sector in sectors)
         data = body[HEADER.size:HEADER.size + length]
         return Record(kind, generation, number, when, synced, chain, data, place + size)
 

@@ -1,25 +1,20 @@
 """A node made of what a log holds: a standby that stands where the log ends."""
+from collections import deque
 from collections.abc import Callable, Iterable, Iterator
 from pathlib import Path
 
 from host.log.disk import Disk
 from host.log.format import Head, Rotten
-from host.log.reading import BaseReader, Found, LogReader, links
-from host.node import LOOK, PIECE, Node, Refused, looks, piece, text_from
+from host.log.reading import BaseReader, Found, LogReader
+from host.node import LOOK, PIECE, Answer, Node, Refused, looks, piece, text_from
 
-MOST_AT_ONCE = 1 << 18  # bytes of lines that a node is told at a time, which fit into its pipe
-AHEAD = 6  # pieces on their way to a node, which fit into its pipe too: so it needn't wait for each, nor be waited for
-
-
-def recovered(command: list[str], disk: Disk, folder: Path, found: Found) -> Node:
-    """A node that is the standby whose log that is. Raises Rotten, also where a node takes something otherwise than it was written;
-    LogBehind, OSError, NodeEnded."""
-    return node_of(command, disk, folder, links(disk, folder, found))
+MOST_ON_ITS_WAY = 900_000  # bytes of lines to a node, which fit into its pipe
 
 
 def node_of(command: list[str], disk: Disk, folder: Path, made: list[Found], sink: Callable[[bytes], None] = lambda data: None) -> Node:
-    """The same, of a log beside those on which it stands, it last; where it stands on another one, `sink` gets the full checkpoint of its
-    generation, piece by piece."""
+    """A node that is the standby whose log that is, beside those on which it stands, it last; where it stands on another one, `sink` gets the
+    full checkpoint of its generation, piece by piece. Raises Rotten, also where a node takes something otherwise than it was written;
+    LogBehind, OSError, NodeEnded."""
     node = Node(command)
     try:
         fill(node, disk, folder, made[0])
@@ -94,49 +89,58 @@ def sunk(parts: Iterable[bytes], sink: Callable[[bytes], None]) -> Iterator[byte
         sink(data)
 
 
+class Ahead:
+    """Tells a node lines, of which some are on their way, so that it needn't wait for each, nor be waited for. Where this raises, answers may
+    be on their way too: the node isn't told anything more then."""
+
+    def __init__(self, node: Node) -> None:
+        self.node, self.size = node, 0
+        self.waiting: deque[tuple[int, int, Callable[[Answer], None] | None]] = deque()
+
+    def put(self, *lines: bytes, check: Callable[[Answer], None] | None = None) -> None:
+        """The last one's answer is given to `check`. Raises Refused."""
+        self.node.put(*lines)
+        size = sum(map(len, lines))
+        self.waiting.append((size, len(lines), check))
+        self.size += size
+        while self.size > MOST_ON_ITS_WAY:
+            self.hear()
+
+    def hear(self) -> None:
+        size, count, check = self.waiting.popleft()
+        self.size -= size
+        for _ in range(count):
+            answer = self.node.answer().checked()
+        if check is not None:
+            check(answer)
+
+    def finish(self) -> None:
+        """All is answered. Raises Refused."""
+        while self.waiting:
+            self.hear()
+
+
 def feed_all(node: Node, parts: Iterable[bytes]) -> None:
-    """A text, a piece at a time, of which some are on their way. Where this raises, answers may be on their way too: the node isn't told
-    anything more then. Raises Refused."""
-    waiting = 0
+    """A text, a piece at a time. Raises Refused."""
+    ahead = Ahead(node)
     for data in parts:
         for at in range(0, len(data), PIECE):
-            node.put(piece(data[at:at + PIECE]))
-            waiting += 1
-            if waiting > AHEAD:
-                node.answer().checked()
-                waiting -= 1
-    for _ in range(waiting):
-        node.answer().checked()
+            ahead.put(piece(data[at:at + PIECE]))
+    ahead.finish()
 
 
 def feed_many(node: Node, texts: Iterable[bytes], generation: int) -> None:
-    """Texts from number 1 on, short ones many at a time. Raises Refused, Rotten."""
-    lines, size, number = [], 0, 0
-    for text in texts:
-        if len(text) > PIECE:
-            number += told(node, lines, generation, number)
-            lines, size = [], 0
-            feed_all(node, [text[:-1]])  # its last byte with the commit
-            text = text[-1:]
-        lines += piece(text), b"commit"
-        size += len(lines[-2])
-        if size > MOST_AT_ONCE:
-            number += told(node, lines, generation, number)
-            lines, size = [], 0
-    told(node, lines, generation, number)
+    """Texts from number 1 on. Raises Refused, Rotten."""
+    ahead = Ahead(node)
+    for number, text in enumerate(texts, 1):
+        last = (len(text) - 1) // PIECE * PIECE  # where its last piece begins
+        for at in range(0, last, PIECE):
+            ahead.put(piece(text[at:at + PIECE]))
+        ahead.put(piece(text[last:]), b"commit", check=lambda answer, number=number: committed(answer, generation, number))
+    ahead.finish()
 
 
-def told(node: Node, lines: list[bytes], generation: int, number: int) -> int:
-    """How many texts these lines have, which follow that number. Raises Refused, Rotten."""
-    answers = node.tell(*lines) if lines else []
-    for place, answer in enumerate(answers):
-        answer.checked()
-        if place % 2:
-            committed(answer, generation, number + (place + 1) // 2)
-    return len(answers) // 2
-
-
-def committed(answer, generation: int, number: int) -> None:
+def committed(answer: Answer, generation: int, number: int) -> None:
     """Raises Rotten where the node commits another checkpoint than the log has there."""
     if answer.words != [b"committed", str(generation).encode(), str(number).encode()]:
         raise Rotten(f"{generation}.log: the node answers checkpoint {number} by {b' '.join(answer.words).decode()}")
