@@ -72,7 +72,8 @@ class Connection:
             self.wants_write = True
             return
         except (ssl.SSLZeroReturnError, ssl.SSLEOFError, ConnectionError):
-            raise Closed("it closed the connection in the handshake: 'plain' may be set there, or something else has that port") from None
+            raise Closed("it closed the connection in the handshake: it has ended just then, or 'plain' is set there, or something else has "
+                         "that port") from None
         except (OSError, ValueError) as error:
             raise Closed(self.why(error) or f"the handshake failed: {reason(error)}") from None
         if why := self.papers.why_not(self.socket.getpeercert(binary_form=True)):
