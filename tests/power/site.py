@@ -17,10 +17,12 @@ from host.log.reading import newest
 from host.snapshot import find_text
 from tests.disks import lose
 from tests.hosts import Asker, Host, loopback_pair, protected
+from tests.power.bank import Teller
 from tests.power.web import Visitor
 
 ROOT = Path(__file__).resolve().parents[2]
-GUESTS = {"counter": (ROOT / "examples/counter.sim", Asker), "web": (ROOT / "examples/server.sim", Visitor)}
+GUESTS = {"counter": (ROOT / "examples/counter.sim", Asker, {}), "web": (ROOT / "examples/server.sim", Visitor, {}),
+          "bank": (None, Teller, {"steps_per_ms": 50_000})}
 PATIENCE = 30.0  # seconds
 TURN_AFTER = 2.0  # seconds, after which a log is taken to turn no more by itself
 
@@ -50,19 +52,22 @@ def meanwhile(host: Host, verb: str, **fields: object) -> None:
 
 
 class Site:
-    """`live` has the guest and `other` is its standby, or is to be. `mistake` is one of tests/power/mistakes.py."""
+    """`live` has the guest and `other` is its standby, or is to be. `mistake` is one of tests/power/mistakes.py; `script` the bank's image."""
 
     LOG = "standby"
 
-    def __init__(self, room: Path, seed: int, guest: str = "counter", is_quick: bool = True, slow_ms: float = 12, mistake: str = "") -> None:
+    def __init__(self, room: Path, seed: int, guest: str = "counter", script: Path | None = None, slow_ms: float = 12,
+                 mistake: str = "") -> None:
         self.rng, self.counts, self.saved = random.Random(seed), Counter(), room / "saved"
-        self.hosts = loopback_pair(room, GUESTS[guest][0], plain=True, log=self.LOG, log_limit_mb=2 if is_quick else 64)
+        image, client, settings = GUESTS[guest]
+        is_quick = image is not None  # its base is short
+        self.hosts = loopback_pair(room, image or script, plain=True, log=self.LOG, log_limit_mb=2 if is_quick else 8, **settings)
         for one in self.hosts:
             one.program = ROOT / "tests" / "host_on_disk"
             one.environment = os.environ | {"REMUS_DISK": "Losing", "REMUS_QUICK": "1" if is_quick else "", "REMUS_SLOW_MS": str(slow_ms),
                                             "REMUS_MISTAKE": mistake}
         self.live, self.other = self.hosts
-        self.client = GUESTS[guest][1](*self.hosts)
+        self.client = client(*self.hosts)
         self.moments: list[Callable[[], None]] = []
         self.list_moments()
 
@@ -210,6 +215,8 @@ def played(room: Path, cuts: int, seed: int, kind: type[Site] = Site, **how: obj
         wrong = None
         while site.counts["power cuts"] < cuts and wrong is None:
             wrong = site.round()
+        if isinstance(site.client, Teller):
+            wrong = wrong or site.client.judged()
         client = site.client
         seen = {"answers": len(client.numbers)} | ({"downloads": client.loaded, "came": client.progress} if isinstance(client, Visitor) else {})
         return wrong, dict(site.counts) | seen | {"seed": seed, "seconds": round(time.monotonic() - begun)}
