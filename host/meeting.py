@@ -39,9 +39,13 @@ class Meeting:
         host = self.host
         self.said_role, session = host.role, host.branch
         return messages.told(HELLO, NO_SESSION, version=messages.VERSION, name=host.settings.name, instance=host.instance,
-                             role=host.role, life=host.life if host.role != "empty" else None, generation=host.generation,
-                             session=session, full=host.full, committed=host.committed,
-                             **host.kept.told_to_peer(), **self.own_log())
+                             role=host.role, session=session, **self.held(), **self.own_log())
+
+    def held(self) -> dict[str, object]:
+        """What this host holds of a guest, and what it knows of logs."""
+        host = self.host
+        return {"life": host.life if host.role != "empty" else None, "generation": host.generation, "full": host.full,
+                "committed": host.committed} | host.kept.told_to_peer()
 
     def own_log(self) -> dict[str, str]:
         """By which another live host of this guest knows which of the two went live later."""
@@ -78,8 +82,8 @@ class Meeting:
 
     # A live host's side.
 
-    def refuse(self, connection, why, level="info", session=NO_SESSION):
-        told = messages.told(NO, session, why=why, role=self.host.role, name=self.host.settings.name)
+    def refuse(self, connection, why, level="info", session=NO_SESSION, **more):
+        told = messages.told(NO, session, why=why, role=self.host.role, name=self.host.settings.name, **more)
         self.link.refuse(connection, told, why, level)
 
     def greeted(self, connection, hello, now):
@@ -94,7 +98,7 @@ class Meeting:
             return self.resume(connection, hello, now)
         if host.role != "live":
             host.kept.heard(hello)
-            return self.refuse(connection, f"this host is {host.role}", "debug")
+            return self.refuse(connection, f"this host is {host.role}", "debug", **self.held())
         self.link.wait_for_calls(now)
         if hello["role"] == "live":
             return self.met_another_live(connection, hello)
@@ -429,6 +433,8 @@ class Meeting:
 
     def no(self, connection, told, now):
         self.is_told(told["role"], now)
+        if "life" in told:  # it may be that the peer doesn't reach this host, and calls it in vain
+            self.host.kept.heard(told)
         self.link.hang_up(connection)
         if told["role"] == "live":
             self.link.trouble.is_so(f"{told['name']} doesn't let this host in: {told['why']}")
