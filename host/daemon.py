@@ -29,6 +29,7 @@ LONGEST_WAIT = 10.0  # seconds
 MOST_WHY = 200  # characters, of a reason that goes over the link
 HEARD_AT_ONCE = 3  # acknowledgements that let nothing out
 LOOK_AGAIN = 0.5  # seconds, at a network with which something is wrong
+QUIET_AFTER = 0.05  # seconds
 MEND_AGAIN = 1.0  # seconds: somebody else may undo it
 
 
@@ -52,6 +53,7 @@ class Daemon:
         self.node = Node(settings.node)
         self.live = self.standby = self.peer = self.life = self.shape = None
         self.heir: Heir | None = None  # is there while this host hands its guest on, or keeps it then
+        self.quiet_at: float | None = None  # when its network is to go down, if that is still to come
         self.instance = secrets.token_hex(8)
         self.kept, self.saving = Kept(self, Disk()), None
         saving.forget(self.kept.folder)
@@ -131,7 +133,7 @@ class Daemon:
     def become_empty(self):
         """Gives up what is here, and starts a node that has nothing."""
         self.give_up()
-        self.network.down()  # for which the kernel may take some ten milliseconds
+        self.quiet_network()
         self.node.close()
         self.node = Node(self.settings.node)
 
@@ -194,28 +196,32 @@ class Daemon:
             self.become_empty()
             raise
         self.meeting.goes_live()
-        self.live = live
+        self.live, self.quiet_at = live, None
         self.network.up()
         self.network.put(network.announcement(self.settings.guest_address))
 
-    def freeze(self):
+    def freeze(self) -> None:
         """The guest stops, and is kept, but for no other host."""
         self.leave_heir()
         self.link.close()
-        self.keep()
+        self.keep(self.link.now())
+        self.quiet_network()
 
-    def keep(self) -> None:
-        """The guest stops, and is kept."""
-        now = self.link.now()
+    def keep(self, now: float) -> None:
+        """The guest stops, and is kept. Its network goes down once what follows is said: the kernel may take some ten milliseconds for it."""
         self.live.stop(now)
         if self.live.own is not None:
             self.live.end_epoch(now)
-        self.live.is_frozen = True
-        self.network.down()
+        self.live.is_frozen, self.quiet_at = True, now + QUIET_AFTER
         self.log.info("frozen: the guest is kept, and doesn't run")
+
+    def quiet_network(self) -> None:
+        self.network.down()
+        self.quiet_at = None
 
     def thaw(self, now):
         self.leave_heir()
+        self.quiet_at = None
         self.meeting.goes_live()
         self.live.go_on(now)
         self.network.up()
@@ -414,6 +420,8 @@ class Daemon:
         now = time.monotonic()
         if self.signals.came in readable:
             self.signals.hear(now)
+            if self.is_over:
+                return  # it does nothing more that somebody may have asked for
         if hears_log and self.kept.keeper in readable:
             self.log_told(now)
         if is_patient and self.link.is_up:
@@ -425,6 +433,8 @@ class Daemon:
             self.look_at_network(now)
         if self.live is not None:
             self.live.turn(now)
+        if self.quiet_at is not None and now >= self.quiet_at:
+            self.quiet_network()
         if self.task is not None:
             self.turn_task(now)
         if self.saving is not None and self.saving in readable:
@@ -468,6 +478,8 @@ class Daemon:
             until = due
         if self.network.wrong is not None:
             until = min(until, self.looked_at + LOOK_AGAIN)
+        if self.quiet_at is not None:
+            until = min(until, self.quiet_at)
         return until - now if until > now else 0
 
     def take_frames(self):

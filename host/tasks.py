@@ -85,7 +85,7 @@ class Drain:
                 link.send(go_live(live.session, live.generation, self.last), now)
             self.told_over = link.connection
         if host.heir is not None and not host.is_frozen:
-            host.keep()
+            host.keep(now)
         if not self.promotes:
             self.finish("the standby has all, and can be promoted", "this host keeps the guest, and doesn't run it")
 

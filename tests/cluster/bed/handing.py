@@ -6,7 +6,7 @@ import time
 
 from bed import network
 
-DELAYS = 0.0, 0.1, 0.2, 0.3, 0.4, 0.5  # seconds, from the beginning of a hand-over
+DELAYS = 0.1, 0.2, 0.3, 0.4  # seconds, from the beginning of a hand-over
 SECONDS = 30  # until the guest is live again
 
 
@@ -38,18 +38,18 @@ def loses_power(bed, live: str, standby: str) -> None:
     bed.power.cut(standby)
 
 
-CROSSED = {"move, and its standby out of service": (moves, is_taken_out), "move, and the other daemon killed": (moves, ends),
-           "move, and the other host's power cut": (moves, loses_power),
-           "failed monitor, and its standby out of service": (loses_bridge, is_taken_out)}
+CROSSED = {"move, and its standby out of service": (moves, is_taken_out, 4), "move, and the other daemon killed": (moves, ends, 1),
+           "move, and the other host's power cut": (moves, loses_power, 1),
+           "failed monitor, and its standby out of service": (loses_bridge, is_taken_out, 1)}
 
 
 def handing(row, times: int) -> None:
     """The guest is handed on, and the host that it is handed to is taken out of service, or fails, within half a second."""
     bed = row.bed
     for row.tries in range(1, times + 1):
-        for what, (begins, crosses) in CROSSED.items():
-            for delay in DELAYS:
-                crossed(row, what, begins, crosses, delay)
+        for what, (begins, crosses, count) in CROSSED.items():
+            for place in range(row.tries - 1, row.tries - 1 + count):
+                crossed(row, what, begins, crosses, DELAYS[place % len(DELAYS)])
 
 
 def crossed(row, what: str, begins, crosses, delay: float) -> None:
