@@ -1,10 +1,11 @@
-"""Signals. SIGTERM, Ctrl-C and Ctrl-\\ end the daemon; one whose host is live and paired hands its guest to the standby first. Each other
-one that can be caught ends and stops nothing."""
+"""Signals. SIGTERM, Ctrl-C and Ctrl-\\ end the daemon; one whose host is live and paired hands its guest to the standby first, and one that
+is alone and keeps logs writes it there. Each other one that can be caught ends and stops nothing."""
 import signal
 import socket
 import time
 from types import FrameType
 
+from host.log import last
 from host.modes import PAIRED
 from host.node import FAULTS, SHIELDED
 from host.stopping import Stop
@@ -87,10 +88,13 @@ class Signals:
         host.end()
 
     def keep_guest(self, name: str, now: float) -> None:
-        """This host ends, once what it has of the guest is in its own log, if it keeps one."""
+        """This host ends, once what it has of the guest is in a log, if it keeps one."""
         host = self.host
         if host.task is not None:
             host.task.fail("this host is told to end")
+        if last.is_due(host):
+            host.log.info(f"{name}: nobody is there to hand the guest to; it stops, and is written into a log of its own")
+            last.keep(host)
         if host.live is None or host.live.own is None:
             return host.end()
         host.log.info(f"{name}: nobody is there to hand the guest to; it stops, and is kept in this host's log")
