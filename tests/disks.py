@@ -111,6 +111,8 @@ class Losing(Disk):
         return 0
 
     def rename(self, path: Path, to: Path) -> None:
+        if path.parent.name != "log" or to.parent != path.parent:
+            return super().rename(path, to)  # into the past, at once
         aside = self.put_aside(to)
         self.synced(to, known(self.account(path.parent), path.name))
         super().rename(path, to)
@@ -125,7 +127,8 @@ class Losing(Disk):
     def sync_folder(self, folder: Path) -> None:
         self.wait()
         super().sync_folder(folder)
-        self.tell(folder, "synced")
+        if folder.name == "log":
+            self.tell(folder, "synced")
 
 
 def lose(folder: Path, rng: random.Random) -> None:
@@ -140,7 +143,7 @@ def lose(folder: Path, rng: random.Random) -> None:
             undo(folder, account, line.split())
     (account / "names").write_text("")
     for path in folder.iterdir():
-        if not path.name.endswith(".mark"):
+        if path.is_file() and not path.name.endswith(".mark"):
             tear(path, known(account, path.name), rng)
     for one in account.glob("kept.*"):
         one.unlink()

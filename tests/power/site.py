@@ -13,7 +13,10 @@ from pathlib import Path
 
 from host import ctl
 from host.log.disk import Disk
-from host.log.reading import newest
+from host.log.format import LogBehind, Rotten
+from host.log.history import course_of, generations
+from host.log.past import rooms
+from host.log.reading import check_all, newest
 from host.snapshot import find_text
 from tests.disks import lose
 from tests.hosts import Asker, Host, loopback_pair, protected
@@ -61,7 +64,8 @@ class Site:
         self.rng, self.counts, self.saved = random.Random(seed), Counter(), room / "saved"
         image, client, settings = GUESTS[guest]
         is_quick = image is not None  # its base is short
-        self.hosts = loopback_pair(room, image or script, plain=True, log=self.LOG, log_limit_mb=2 if is_quick else 8, **settings)
+        self.hosts = loopback_pair(room, image or script, plain=True, log=self.LOG, log_limit_mb=2 if is_quick else 8,
+                                   log_keep="1h" if seed % 2 else "0s", **settings)
         for one in self.hosts:
             one.program = ROOT / "tests" / "host_on_disk"
             one.environment = os.environ | {"REMUS_DISK": "Losing", "REMUS_QUICK": "1" if is_quick else "", "REMUS_SLOW_MS": str(slow_ms),
@@ -208,6 +212,20 @@ class Site:
         self.other.start()
 
 
+    def past(self) -> str | None:
+        """What is wrong with what is kept of the past."""
+        disk = Disk()
+        for room in (room for one in self.hosts for room in rooms(disk, log_of(one))[1:]):
+            for generation in generations(disk, room):
+                try:
+                    if (course := course_of(disk, room, generation, False)) is not None:
+                        check_all(disk, room, course.logs)
+                        self.counts["logs of the past"] += 1
+                except (Rotten, LogBehind) as error:
+                    return f"{room}: {error!r}"
+        return None
+
+
 def played(room: Path, cuts: int, seed: int, kind: type[Site] = Site, **how: object) -> tuple[str | None, dict]:
     """A site whose power is cut so often: what is wrong, and what was counted."""
     begun = time.monotonic()
@@ -217,6 +235,7 @@ def played(room: Path, cuts: int, seed: int, kind: type[Site] = Site, **how: obj
             wrong = site.round()
         if isinstance(site.client, Teller):
             wrong = wrong or site.client.judged()
+        wrong = wrong or site.past()
         client = site.client
         seen = {"answers": len(client.numbers)} | ({"downloads": client.loaded, "came": client.progress} if isinstance(client, Visitor) else {})
         return wrong, dict(site.counts) | seen | {"seed": seed, "seconds": round(time.monotonic() - begun)}

@@ -67,7 +67,8 @@ class TwoLogs(Site):
         """A standby that has nothing is filled, while the guest goes on."""
         self.cut(self.other)
         for file in log_of(self.other).iterdir():
-            file.unlink()
+            if file.is_file():
+                file.unlink()
         self.live.ask("alone")
         self.other.start()
         self.pause(0.5)
