@@ -88,10 +88,11 @@ began=$(($(date -u -d "${DATE:-2026-01-01}" +%s) * 1000 + 210866760000000))
 cp -r "$here" "$room/sql"
 cp -r "$here/../server" "$here/../lib" "$room"
 cd "$room"
-sources="secret.c server/server.c server/disk.c server/network.c server/reopen.c one/sqlite3.c"
-for name in guest memory log vfs locks database text settings stacks turns patterns functions digest password scram statement lexer dialect session work query \
+sources="secret.c server/server.c server/disk.c server/network.c server/reopen.c
+    sql/sqlite_begin.s one/sqlite3.c sql/sqlite_end.s sql/handler.s"
+for name in guest log vfs locks database text settings stacks turns patterns functions digest password scram statement lexer dialect session work query \
     rows messages parameters types trigger extended copy_words copy_rows copy postgres request table page door cksum pages dump whole http connections \
-    tokens escapes casts translate arrays sets expressions declarations catalog catalog_queries postgres_sql; do
+    ticks tokens escapes casts translate arrays sets expressions declarations catalog catalog_queries postgres_sql; do
     sources="$sources sql/$name.c"
 done
 read -r statement lock idle <<<"${TIMEOUTS:-20000 10000 60000}"
@@ -104,6 +105,7 @@ fi
 for name in $lwip_core; do
     sources="$sources lwip/src/$name.c"
 done
+sources="$sources sql/libraries_begin.s sql/memory.c"
 
 # shellcheck disable=SC2086
 riscv64-unknown-elf-gcc --specs=picolibc.specs -march=rv64im -misa-spec=2.2 -mabi=lp64 -mcmodel=medany -mno-relax -mstrict-align -O2 \

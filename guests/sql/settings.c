@@ -3,6 +3,7 @@
 #include <string.h>
 
 #include "sqlite3.h"
+#include "turns.h"
 
 /* The image's, in milliseconds (build.sh). */
 #ifndef MOST_STATEMENT
@@ -97,6 +98,9 @@ static void show(const struct settings *settings, int setting, char shown[MOST_S
         sqlite3_snprintf(MOST_SHOWN, shown, "%u%s", value / units[unit].milliseconds, units[unit].name);
 }
 
+/* How long the longest turn was since this was asked before: this guest's own, by which one sees who keeps the others waiting. */
+#define LONGEST_TURN "longest_turn"
+
 /* What can't be set: a name, what its column is called, and its value. */
 static const char *const fixed[][3] = {
     {"transaction_isolation", "transaction_isolation", "serializable"},
@@ -112,6 +116,7 @@ static const char *const fixed[][3] = {
     {"timezone", "\"TimeZone\"", "UTC"},
     {"search_path", "search_path", "public"},
     {"max_identifier_length", "max_identifier_length", "63"},
+    {LONGEST_TURN, LONGEST_TURN, ""},
 };
 
 static int fixed_of(const char *name) {
@@ -125,6 +130,8 @@ int setting_show(const struct settings *settings, const char *name, char shown[M
     int setting = setting_of(name), other = fixed_of(name);
     if (setting >= 0)
         show(settings, setting, shown);
+    else if (sqlite3_stricmp(name, LONGEST_TURN) == 0)
+        sqlite3_snprintf(MOST_SHOWN, shown, "%llums", turn_longest());
     else if (other >= 0)
         sqlite3_snprintf(MOST_SHOWN, shown, fixed[other][2], sqlite3_libversion());
     return setting >= 0 || other >= 0;

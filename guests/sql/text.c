@@ -4,17 +4,21 @@
 #include <string.h>
 
 #include "sqlite3.h"
+#include "turns.h"
 
 /* An empty text keeps no more room than this. */
 #define KEPT (16 * 1024)
 
+/* The network sends texts that work adds to: nobody comes between old memory and new. */
 static int resize(struct text *text, uint32_t room) {
+    turn_hold();
     char *bytes = sqlite3_realloc64(text->bytes, room);
-    if (bytes == NULL)
-        return 0;
-    text->bytes = bytes;
-    text->room = room;
-    return 1;
+    if (bytes != NULL) {
+        text->bytes = bytes;
+        text->room = room;
+    }
+    turn_release();
+    return bytes != NULL;
 }
 
 int text_start(struct text *text, uint32_t most) {

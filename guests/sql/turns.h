@@ -1,5 +1,5 @@
 /* Work in turns: what takes long is left in its midst after some milliseconds, so that the network and others have their turns, and goes
-   on later where it stood. */
+   on later where it stood. It is left where it looks whether its time is over, and, by the timer, within SQLite (ticks.h). */
 #ifndef TURNS_H
 #define TURNS_H
 
@@ -7,6 +7,7 @@
 
 struct turn {
     int is_begun;   /* the work has, and isn't over */
+    int held;       /* so often the timer was told to let it be */
     uint32_t given; /* how many it was given */
     void (*act)(void *with);
     void *with;
@@ -20,5 +21,15 @@ int turn_give(struct turn *turn);
 /* Within the work: leaves it if the turn's time is over, or at once. Elsewhere they do nothing. */
 void turn_look(void);
 void turn_leave(void);
+
+/* The timer's: leaves the work, unless it is held. Answers whether it was left, when its next turn comes. */
+int turn_tick(void);
+
+/* Within the work: the timer lets it be, since it changes what others use by a call of SQLite's; and no more. */
+void turn_hold(void);
+void turn_release(void);
+
+/* How many milliseconds the longest turn has taken since this was asked before. */
+uint64_t turn_longest(void);
 
 #endif

@@ -186,6 +186,19 @@ static int file_properties(sqlite3_file *file) {
 
 /* The log's index. */
 
+/* Others may have their turns while memory is asked for, and make the same part. */
+static int make_part(int number, int size) {
+    void *made = sqlite3_malloc64((sqlite3_uint64)size);
+    if (made == NULL)
+        return 0;
+    memset(made, 0, (size_t)size);
+    if (index_parts[number] == NULL)
+        index_parts[number] = made;
+    else
+        sqlite3_free(made);
+    return 1;
+}
+
 static int index_map(sqlite3_file *file, int number, int size, int is_made, void volatile **to) {
     *to = NULL;
     if (number >= MOST_PARTS)
@@ -193,12 +206,8 @@ static int index_map(sqlite3_file *file, int number, int size, int is_made, void
     if (!of(file)->has_index)
         index_users++;
     of(file)->has_index = 1;
-    if (index_parts[number] == NULL && is_made) {
-        index_parts[number] = sqlite3_malloc64((sqlite3_uint64)size);
-        if (index_parts[number] == NULL)
-            return SQLITE_NOMEM;
-        memset(index_parts[number], 0, (size_t)size);
-    }
+    if (index_parts[number] == NULL && is_made && !make_part(number, size))
+        return SQLITE_NOMEM;
     *to = index_parts[number];
     return SQLITE_OK;
 }
@@ -222,8 +231,9 @@ static int index_unmap(sqlite3_file *file, int is_log_deleted) {
     if (--index_users > 0 || !is_log_deleted)
         return SQLITE_OK;
     for (int i = 0; i < MOST_PARTS; i++) {
-        sqlite3_free(index_parts[i]);
+        void *gone = index_parts[i];
         index_parts[i] = NULL;
+        sqlite3_free(gone);
     }
     return SQLITE_OK;
 }

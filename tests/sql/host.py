@@ -17,13 +17,13 @@ LARGE = ["-std=gnu11", "-O1", "-Wall", "-Wextra", "-Werror", '-DFIRST_TOLD="PRAG
 FLAGS = [*LARGE, "-DDISK_SECTORS=4096", "-DJOURNAL_SECTOR=2048", "-DLOG_SECTOR=3072", "-DFIRST_LOG_SECTOR=3584"]
 FILES = ["vfs", "locks", "turns", "database"]
 SANITIZERS = ["-g", "-fsanitize=address,undefined", "-fno-sanitize-recover=all"]
-UNITS = ["digest", "locks", "statement", "lexer", "escapes", "text", "request", "cksum"]
+UNITS = ["digest", "locks", "statement", "lexer", "escapes", "text", "turns", "request", "cksum"]
 SESSIONS = ["text", "log", "settings", "patterns", "functions", "digest", "password", "scram", "statement", "lexer", "dialect", "session", "work", "query",
             "rows", "messages", "parameters", "types", "trigger", "extended", "copy_words", "copy_rows", "copy", "postgres", "request", "table", "page", "door", "cksum", "pages", "dump", "whole",
             "http",
             "tokens", "escapes", "casts", "translate", "arrays", "sets", "expressions", "declarations", "catalog", "catalog_queries",
             "postgres_sql"]
-HOSTS = ["disk", "stacks"]  # what the guest has otherwise
+HOSTS = ["disk", "stacks", "ticks"]  # what the guest has otherwise
 
 
 def library() -> str:
@@ -49,7 +49,7 @@ class Built:
         with ThreadPoolExecutor(4) as pool:
             list(pool.map(self.compile, [*parts, "power", "served", "units", "bytes"]))
             list(pool.map(lambda part: self.compile(part, "checked"), [*parts, "fed"]))
-        self.link("units", [*UNITS, "units"])
+        self.link("units", [*UNITS, *HOSTS, "units"])
         self.link("bytes", ["bytes"])
         self.link("power", [*FILES, *HOSTS, "power"])
         self.link_served("")

@@ -1,0 +1,3 @@
+        .text
+        .globl  sqlite_end
+sqlite_end:
