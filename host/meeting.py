@@ -306,6 +306,11 @@ class Meeting:
             silence = min(settings.link_ms / 2, LEAST_SILENCE + 2 * LONG * settings.epoch_ms)
         return at is not None and now - at < silence
 
+    def has_said_live(self, since: float) -> bool:
+        """Whether the peer has said since then that it is live, and has not just ended the link over which it said so."""
+        at = self.heard_live_at()
+        return at is not None and at > since and (self.link.is_up or self.says_every > 0.0)
+
     def are_two_live(self, now: float) -> bool:
         return self.host.role == "live" and self.live_at is not None and now - self.live_at < SAYS_AGAIN
 

@@ -164,14 +164,15 @@ class Drain:
 
 class Promotion:
     """It is done once the peer, which was live when it was heard last, says that it isn't, or has ended, or has said nothing for longer than
-    a live host that is reached does; and refused where it says again that it is. What was on its way as it was asked for says nothing: who
-    asks may have ended the peer just before. Who asks and leaves meanwhile doesn't want it any more. `does` does it, and answers what is to
+    a live host that is reached does; and refused where it says again that it is. What was on its way as it was asked for, and is heard by the
+    next turn, says nothing: who asks may have ended the peer just before. Who asks and leaves meanwhile doesn't want it any more. `does` does it, and answers what is to
     be answered."""
 
     name = "a promotion is under way"
 
-    def __init__(self, host: Any, does: Callable[[], Answer], is_fenced: bool, answer: Asker, now: float) -> None:
-        self.host, self.does, self.is_fenced, self.answer, self.begun = host, does, is_fenced, answer, now
+    def __init__(self, host: Any, does: Callable[[], Answer], is_fenced: bool, answer: Asker) -> None:
+        self.host, self.does, self.is_fenced, self.answer = host, does, is_fenced, answer
+        self.begun: float | None = None  # when what comes counts
         self.has_dialled = False
 
     def due(self, now: float) -> float:
@@ -179,13 +180,14 @@ class Promotion:
 
     def turn(self, now: float) -> None:
         host, meeting = self.host, self.host.meeting
+        self.begun = now + ON_ITS_WAY if self.begun is None else self.begun
         if self.answer.is_gone():
             host.task = None
             self.answer(refusal("Unwanted", "who asked for this promotion reads no answer any more"))
         elif not meeting.may_live(now, self.is_fenced):
             host.task = None
             self.answer(self.does())
-        elif meeting.heard_live_at() > self.begun + ON_ITS_WAY:
+        elif meeting.has_said_live(self.begun):
             host.task = None
             self.answer(refusal("PeerIsLive", "the peer says over the link that it is live: drain it or stop it first; 'force' promotes "
                                               "this host all the same, and then two hosts are live"))

@@ -89,7 +89,7 @@ class Verbs:
         why = why_not()
         if force or not host.meeting.may_live(now, fenced) or why is not None and why["refused"] != "PeerUnknown":  # who lives is heard
             return does()
-        host.task = Promotion(host, lambda: self.promoted(does), fenced, answer, now)
+        host.task = Promotion(host, lambda: self.promoted(does), fenced, answer)
         return None
 
     def promoted(self, does: Callable[[], Answer]) -> Answer:
