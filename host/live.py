@@ -422,6 +422,11 @@ class Live:
             if data := self.fetched(self.fetching, self.pending[self.fetching].fetched, now):
                 self.keep(data, now)
 
+    def begin_log(self) -> None:
+        """All of this host's own log's base is fetched, and on the disk, unless that takes too long or fails."""
+        self.fetch_all(self.link.now())
+        self.own.wait()
+
     def in_memory(self, number: int) -> Pending | None:
         """A checkpoint whose text is kept."""
         one = self.pending.get(number)

@@ -16,7 +16,7 @@ TEXT = """The daemon of one host of a pair.
     remus-host run --config FILE       runs the daemon
     remus-host check --config FILE     checks a configuration, and does no more
     remus-host keys FOLDER NAME        makes NAME.key and NAME.crt for the link; with --renew and --switch renews them
-    remus-host log list|check|export   shows or checks a standby's log, or makes a snapshot of it
+    remus-host log list|check|export   shows or checks a host's log, or makes a snapshot of it
     remus-host ctl VERB                asks a daemon that runs: status, promote, alone, drain, demote, save, metrics
 
 docs/OPERATE.md says what each does, key by key and verb by verb."""
@@ -124,7 +124,7 @@ def run_daemon(found: settings.Settings, log: Log) -> int:
     try:
         daemon.run()
     except NodeEnded as error:
-        is_logged = daemon.standby is not None and daemon.standby.logged is not None
+        is_logged = daemon.kept.on_disk() is not None
         log.error(f"{error}: what this host held is {'in its log' if is_logged else 'gone'}")
         return 1
     log.info("ended")

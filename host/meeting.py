@@ -323,6 +323,8 @@ class Meeting:
         host = self.host
         if not hello["full"]:
             return self.over_for(connection, hello, self.why_over(hello))
+        if self.went_from(hello):
+            return self.over_for(connection, hello, "it went live behind what is held there")
         if hello["life"] == host.life and hello["generation"] > host.generation:
             self.link.refused.say("error", f"{hello['name']} holds generation {hello['generation']} of this guest, and this host lives "
                                            f"in {host.generation}: it may be this host that is stale", "stale")
@@ -332,6 +334,11 @@ class Meeting:
         if hello["life"] == host.life and hello["role"] == "frozen" and hello["generation"] == host.generation:
             return self.refuse(connection, "two hosts have this guest, in one generation")
         return self.over_for(connection, hello, "that attachment is over")
+
+    def went_from(self, hello: dict) -> bool:
+        """Whether this host went live behind that host's log."""
+        own = self.host.live.own
+        return own is not None and own.went_from is not None and own.went_from in (hello["session"], hello.get("branch"))
 
     def why_over(self, hello):
         """What has become of the attachment of a standby without a full checkpoint."""

@@ -48,7 +48,7 @@ class Settings:
     frames: str | None = None
     guest_address: str | None = None
     metrics: tuple[str, int] | None = None
-    log: str = "none"
+    log: str = "both"
     log_on_failure: str = "hold"
     log_limit_mb: int = 256
     log_keep: float = 0.0

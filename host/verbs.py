@@ -199,7 +199,10 @@ class Verbs:
         self.host.turn_task(now)
 
     def save(self, answer: Tell, file: str) -> Answer | None:
-        host, at = self.host, self.host.kept.on_disk()
+        host = self.host
+        if host.live is not None and host.live.own is not None and host.kept.on_disk() is None:
+            host.live.begin_log()
+        at = host.kept.on_disk()
         if host.saving is not None:
             return refusal("Busy", "a snapshot is being saved")
         if at is None and (why := self.why_not_saved()):

@@ -29,10 +29,11 @@ class Life:
 
 
 def alone_in(status: dict) -> Life:
-    """What the property has to say of a live guest: it was alone in this generation, or, if it has a standby, in the one before. The host
-    that handed it on keeps it in an earlier generation, until it follows this one."""
+    """What the property has to say of a live guest: it was alone in this generation, or, if it has a standby, or lets nothing out that isn't
+    in its host's own log, in the one before. The host that handed it on keeps it in an earlier generation, until it follows this one."""
     generation = status.get("stands_on") or status["generation"]
-    return Life(status["life"], generation - (0 if status["mode"] == "alone" else 1))
+    is_protected = status["mode"] != "alone" or (status.get("log") or {}).get("protects", False)
+    return Life(status["life"], generation - (1 if is_protected else 0))
 
 
 def may_boot(status: dict, life: Life | None, booting: str) -> bool:

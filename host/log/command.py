@@ -23,7 +23,7 @@ TRIES, PAUSE = 3, 0.1  # what a daemon is just writing may look damaged
 
 def add(kinds) -> None:
     """The command line of log."""
-    one = kinds.add_parser("log", help="shows or checks a standby's log")
+    one = kinds.add_parser("log", help="shows or checks a host's log")
     verbs = one.add_subparsers(dest="verb", required=True, metavar="VERB")
     for verb, said in VERBS.items():
         reader = verbs.add_parser(verb, help=said, description=said)

@@ -6,6 +6,7 @@ from host.log.logged import Logged, Part
 
 MOST_PARTS = 4  # logs that stand on one another, above which a base is written
 BASE_AGAIN = 60.0  # seconds, after which a base that couldn't be written is tried again
+WAIT = 5.0  # seconds
 MOST_JOBS = 64  # pieces of a base that wait for the disk
 
 
@@ -67,6 +68,10 @@ class OwnLog(Logged):
     def over(self) -> None:
         """It is never loaded again."""
         self.keeper.over()
+
+    def wait(self) -> None:
+        """Until what is given is on the disk, so long at most."""
+        self.keeper.finish(WAIT)
 
     # Bases, and what comes before them.
 
