@@ -9,6 +9,7 @@ import threading
 import time
 from collections import Counter
 from collections.abc import Callable
+from functools import partial
 from pathlib import Path
 
 from host import ctl
@@ -26,7 +27,7 @@ from tests.power.web import Visitor
 ROOT = Path(__file__).resolve().parents[2]
 GUESTS = {"counter": (ROOT / "examples/counter.sim", Asker, {}), "web": (ROOT / "examples/server.sim", Visitor, {}),
           "bank": (None, Teller, {"steps_per_ms": 50_000})}
-PATIENCE = 30.0  # seconds
+PATIENCE = 90.0  # seconds, since a busy machine takes long to read a log
 TURN_AFTER = 2.0  # seconds, after which a log is taken to turn no more by itself
 
 
@@ -42,6 +43,10 @@ def promoted(host: Host, **how: object) -> dict:
             return answer
         time.sleep(0.02)
     raise TimeoutError(f"{answer}")
+
+
+def patiently(host: Host, is_so: Callable[[dict], bool], patience: float = 0.0) -> dict:
+    return Host.wait(host, is_so, max(patience, PATIENCE))
 
 
 def meanwhile(host: Host, verb: str, **fields: object) -> None:
@@ -67,7 +72,7 @@ class Site:
         self.hosts = loopback_pair(room, image or script, plain=True, log=self.LOG, log_limit_mb=2 if is_quick else 8,
                                    log_keep="1h" if seed % 2 else "0s", **settings)
         for one in self.hosts:
-            one.program = ROOT / "tests" / "host_on_disk"
+            one.program, one.wait = ROOT / "tests" / "host_on_disk", partial(patiently, one)
             one.environment = os.environ | {"REMUS_DISK": "Losing", "REMUS_QUICK": "1" if is_quick else "", "REMUS_SLOW_MS": str(slow_ms),
                                             "REMUS_MISTAKE": mistake}
         self.live, self.other = self.hosts
