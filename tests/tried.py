@@ -11,7 +11,7 @@ PREBUILT = Path(__file__).resolve().parent.parent / "prebuilt/remus"
 Test = Callable[[Path], str | None]
 
 
-def program():
+def program() -> str:
     """REMUS, or else prebuilt/remus."""
     named = os.environ.get("REMUS")
     if not named:

@@ -17,9 +17,10 @@ DC_SECONDS = 2  # how long the first node waits for another one's word; Pacemake
 
 
 def package(folder, program, version=None):
-    """The package of this tree; with another version where one is given."""
+    """The package of this tree for this machine; with another version where one is given."""
     words = [ROOT / "packaging/deb/build", "--unreleased", "--output", folder, *(["--program", program] if program else [])]
-    made = Path(subprocess.run(words, check=True, capture_output=True, text=True).stdout.strip())
+    # Of those that are made this machine's comes first.
+    made = Path(subprocess.run(words, check=True, capture_output=True, text=True).stdout.splitlines()[0])
     return made if version is None else renamed(made, version)
 
 
@@ -31,7 +32,7 @@ def renamed(made, version):
     control = tree / "DEBIAN" / "control"
     control.write_text(re.sub(r"(?m)^Version: .*$", f"Version: {version}", control.read_text()))
     (tree / "usr/lib/remus/VERSION").write_text(version + "\n")
-    later = made.parent / f"remus_{version}_amd64.deb"
+    later = made.parent / f"remus_{version}_{made.stem.rpartition('_')[2]}.deb"
     subprocess.run(["dpkg-deb", "--root-owner-group", "--build", tree, later], check=True, stdout=subprocess.DEVNULL)
     shutil.rmtree(tree)
     return later
