@@ -233,8 +233,9 @@ class Daemon:
     def have_heir(self) -> None:
         """Begins to make one. A host that keeps logs follows nobody: what it takes is to be on its disk, from the full checkpoint on."""
         if not self.kept.keeps:
-            self.heir = Heir(self)
-            self.heir.start()
+            heir = Heir(self)
+            heir.start()
+            self.heir = heir
 
     def leave_heir(self) -> None:
         if self.heir is not None:

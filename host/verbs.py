@@ -84,7 +84,7 @@ class Verbs:
             return self.why_not_begun(new, source) if begins else self.why_no_checkpoint(without_peer)
 
         def does() -> Answer:
-            return why_not() or (self.begin(source, disk, bare) if begins else self.go_on())
+            return why_not() or (self.begin(source, disk, bare) if begins else self.go_on(fenced))
 
         why = why_not()
         if force or not host.meeting.may_live(now, fenced) or why is not None and why["refused"] != "PeerUnknown":  # who lives is heard
@@ -123,14 +123,17 @@ class Verbs:
             return refusal("BootedBefore", "a guest was booted or held here before; 'new' boots another one all the same")
         return None
 
-    def go_on(self) -> Answer:
-        """A frozen host goes on, or a standby goes live; it may have been told so meanwhile."""
+    def go_on(self, is_fenced: bool) -> Answer:
+        """A frozen host goes on, or a standby goes live; it may have been told so meanwhile. A host that is off keeps no guest for this one,
+        whatever it said."""
         host, now = self.host, time.monotonic()
         if host.role == "live":
             return self.lives("this host is live already")
         if host.role == "frozen":
             host.thaw(now)
         else:
+            if is_fenced:
+                host.standby.stands_at = None
             host.go_live(now)
         return self.lives("this host is live")
 
