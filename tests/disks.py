@@ -12,7 +12,8 @@ SECTOR = 512
 
 
 class Ailing(Disk):
-    """Fails while a file of that name is in the folder above the log's: `full` each call that takes room, `broken` each sync."""
+    """Fails while a file of that name is in the folder above the log's: `full` each call that takes room, `broken` each sync. `low`: there is
+    little room."""
 
     def __init__(self) -> None:
         self.paths = {}
@@ -38,6 +39,9 @@ class Ailing(Disk):
     def sync(self, file: int) -> None:
         self.check(file, "broken", errno.EIO)
         super().sync(file)
+
+    def room(self, folder: Path) -> int:
+        return 5 << 20 if (folder.parent / "low").exists() else super().room(folder)
 
 
 class Losing(Disk):

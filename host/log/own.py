@@ -76,7 +76,8 @@ class OwnLog(Logged):
     # Bases, and what comes before them.
 
     def look(self, now: float) -> None:
-        """Begins a base where what it would replace is long, and ends it."""
+        """Begins a base where what it would replace is long, and ends it; and whether the disk is nearly full, now and then."""
+        self.kept.look(now)
         if self.basing is not None:
             if self.basing.is_done:
                 self.has_base(now)

@@ -23,6 +23,7 @@ class Witness:
         if self.file is None:
             is_there = NAME in self.disk.names(self.folder)
             self.file = (self.disk.open if is_there else self.disk.create)(self.folder / NAME)
+            self.disk.sync_folder(self.folder)
             self.count = max((count for count, *_ in self.blocks(self.file)), default=0)
         self.count += 1
         content = HEARD.pack(MAGIC, self.count, generation, number, life.encode()[:MOST_LIFE])
