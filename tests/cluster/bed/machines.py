@@ -30,6 +30,14 @@ class TooLate(Exception):
     pass
 
 
+def command_line(pid: int) -> bytes:
+    """Of a process; empty where it has just gone."""
+    try:
+        return Path(f"/proc/{pid}/cmdline").read_bytes()
+    except OSError:
+        return b""
+
+
 class Bed:
     def __init__(self, folder, program, node, database, token, delay, logs=None):
         self.folder, self.program, self.node, self.database = folder, program, node, database
@@ -114,8 +122,7 @@ class Bed:
 
     def pid_of_daemon(self, host):
         """As this machine numbers it."""
-        return next(pid for pid in self.power.processes(host)
-                    if b"remus-host\0run" in Path(f"/proc/{pid}/cmdline").read_bytes())
+        return next(pid for pid in self.power.processes(host) if b"remus-host\0run" in command_line(pid))
 
     def pid_of_node(self, host):
         daemon = self.pid_of_daemon(host)
