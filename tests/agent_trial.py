@@ -22,6 +22,7 @@ STAND_IN = SourceFileLoader("stand_in", str(STAND_INS / "daemon")).load_module()
 Host, listen, serve = STAND_IN.Host, STAND_IN.listen, STAND_IN.serve
 
 from agent.actions import main as main_of_agent
+from agent.ocf import MOST_REASON
 
 SUCCESS, GENERIC, UNIMPLEMENTED, INSTALLED, NOT_RUNNING, PROMOTED, DEGRADED = 0, 1, 3, 5, 7, 8, 190
 CLONE = {"clone_max": "2", "notify": "true", "promoted_max": "1", "clone_node_max": "1"}
@@ -118,6 +119,8 @@ class Trial:
         self.output, self.errors = (path.read_text() for path in said)
         found = re.search(r"(?m)^ocf-exit-reason:(.*)$", self.errors)
         self.reason = found[1] if found else ""
+        if len(self.reason.encode()) > MOST_REASON:
+            expect(f"{action}: Pacemaker shows all of its reason", self.reason, self.reason.encode()[:MOST_REASON].decode(errors="ignore"))
         return code
 
     def killed(self, action: str, when: Callable[[], bool]) -> None:

@@ -9,7 +9,7 @@ from agent.cluster import Cluster
 from agent.daemon import AGAIN_SECONDS, ANSWER_SECONDS, END_SECONDS, PATIENCE_SECONDS, Daemon, Declined, Silent
 from agent.life import SCORE_FIRST, SCORE_FULL, SCORE_KEPT, SCORE_LIVE, SCORE_WAITS, Life, alone_in, holds_up_frozen
 from agent.life import is_left_half_filled, keeps, may_boot, stale, stalls, why_not, wrong_at
-from agent.ocf import DEGRADED, GENERIC, INSTALLED, NOT_RUNNING, PROMOTED, SUCCESS, UNIMPLEMENTED, Failure, meta, run, warn
+from agent.ocf import DEGRADED, GENERIC, INSTALLED, NOT_RUNNING, PROMOTED, SUCCESS, UNIMPLEMENTED, Failure, meta, run, told, warn
 
 TAKE_SECONDS = 5  # for a demotion before a stop
 ANNOUNCED_SECONDS = 0.5  # for a status, once a demote is announced
@@ -215,10 +215,12 @@ class Pair:
             return None
         if self.lasts(self.lost) < LOST_SECONDS:
             return None
-        lost = f"the guest of life {life.name} is live nowhere, and no host of the cluster can go on with it (here: {here})"
+        which = f"here: {here}; it is of life {life.name}"
         if status["role"] == "frozen" and status["life"] == life.name:
-            return f"{lost}. It stands here, and goes on once its standby has stopped for good: have that stopped, and keep the property"
-        return f"{lost}. A new one is booted once {self.cluster.life_name} is deleted"
+            return ("the guest is live nowhere, and stands here: have its standby stopped for good, and it goes on. Keep the property "
+                    f"({which})")
+        return (f"the guest is live nowhere, and no host can go on with it; a new one is booted once {self.cluster.life_name} is deleted "
+                f"({which})")
 
     def say_wrong(self, sentences: list[str]) -> None:
         """Has the node's attribute say what is wrong here, the parameters too; or takes it back."""
@@ -553,8 +555,8 @@ def main(words: list[str]) -> int:
     try:
         return ACTIONS[action](Pair())
     except Failure as failure:
-        print(f"ocf-exit-reason:{failure.reason}", file=sys.stderr)
+        print(f"ocf-exit-reason:{told(failure.reason)}", file=sys.stderr)
         return failure.code
     except OSError as error:
-        print(f"ocf-exit-reason:{error}", file=sys.stderr)
+        print(f"ocf-exit-reason:{told(str(error))}", file=sys.stderr)
         return GENERIC

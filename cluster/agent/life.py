@@ -66,8 +66,8 @@ def behind(true: Life, life: Life | None) -> str | None:
     """Why the property mustn't say this of a guest, if so: it went on in a later generation, at the other host."""
     if life is None or life.name != true.name or life.generation <= true.generation:
         return None
-    return (f"the guest here is of generation {true.generation}, and by the cluster's property it went on alone in {life.generation}: "
-            "what runs here is stale")
+    return (f"what runs here is stale: it is of generation {true.generation}, and by the cluster's property the guest went on alone in "
+            f"{life.generation}")
 
 
 def stale(status: dict, life: Life | None) -> str | None:

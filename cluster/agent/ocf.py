@@ -9,12 +9,23 @@ NOT_RUNNING, PROMOTED = 7, 8
 DEGRADED = 190  # it runs, and something is wrong: Pacemaker shows it as a failure, and restarts nothing
 
 
+MOST_REASON = 128  # bytes, of a reason that Pacemaker shows
+
+
 class Failure(Exception):
-    """An action that fails, with its exit code and the reason that Pacemaker shows."""
+    """An action that fails, with its exit code and the reason that Pacemaker shows: what is to be known first comes first."""
 
     def __init__(self, code: int, reason: str) -> None:
         self.code, self.reason = code, " ".join(reason.split())
         super().__init__(self.reason)
+
+
+def told(reason: str) -> str:
+    """A reason as Pacemaker is told it, which cuts a longer one off. All of it is in the system's log then."""
+    if len(reason.encode()) <= MOST_REASON:
+        return reason
+    warn(reason)
+    return reason.encode()[:MOST_REASON - 3].decode(errors="ignore").rpartition(" ")[0] + " .."
 
 
 def parameter(name: str, default: str) -> str:
