@@ -12,6 +12,7 @@ from host.heir import Heir
 from host.link import Link
 from host.live import Live
 from host.log.disk import Disk
+from host.log.format import LogBehind, Rotten
 from host.log.kept import Kept, StandbyLog
 from host.meeting import Meeting
 from host.metrics import Counts
@@ -70,6 +71,22 @@ class Daemon:
         self.life, self.shape, self.instance = head.life, (head.pages, head.sectors), head.instance
         self.standby = Standby(self, bytes.fromhex(head.session), self.life, found.generation, self.shape, self.kept.resumed(found),
                                found.is_joined)
+
+    def cut_back(self, number: int) -> None:
+        """A standby from its log has more than the one that went live behind an earlier number, of which nothing was let out: it stands there
+        again, and where it can't, this host is empty."""
+        standby, generation = self.standby, self.standby.generation
+        self.link.close()
+        self.node.kill()
+        standby.leave()
+        self.standby = None
+        try:
+            self.kept.cut_back(generation, number)
+            self.recover()
+        except (OSError, Rotten, LogBehind) as error:
+            self.log.error(f"the log in {self.kept.folder} can't be cut back: {error}")
+        if self.standby is None:
+            self.become_empty()
 
     # What the host is.
 

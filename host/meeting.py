@@ -105,6 +105,8 @@ class Meeting:
         is_frozen = hello["role"] == "frozen"
         if live.own is not None and self.is_beginning(hello):
             return self.resume_from_log(connection, hello, now)
+        if live.own is not None and (upto := self.common(hello)) is not None:
+            return self.over_for(connection, hello, f"it went on behind checkpoint {upto} of generation {hello['generation']}", upto=upto)
         if is_attached and live.own is None and not (is_frozen and hello["committed"] is None):
             return self.resume(connection, hello, now)
         self.withdraw(hello["name"])
@@ -182,6 +184,11 @@ class Meeting:
                                       generation=generation, pages=pages, sectors=sectors, **more))
 
     # Who has a beginning of this host's own log.
+
+    def common(self, hello: dict) -> int | None:
+        """Up to which number of its generation a standby's log is a beginning of this host's, if it goes on beyond that."""
+        is_held = hello["role"] == "standby" and hello["session"] is not None and hello["life"] == self.host.life
+        return self.host.live.own.common(hello["session"], hello["generation"]) if is_held and self.why_no_offer() is None else None
 
     def is_beginning(self, hello: dict) -> bool:
         is_held = hello["role"] == "standby" and hello["session"] is not None and hello["life"] == self.host.life
@@ -347,8 +354,8 @@ class Meeting:
             return "the attachment that was offered never began"
         return "its filling begins again" if host.live.pacer.again else "that attachment is over"
 
-    def over_for(self, connection, hello, why):
-        self.link.refuse(connection, messages.told(OVER, NO_SESSION, why=why, name=self.host.settings.name), f"{hello['name']}: {why}")
+    def over_for(self, connection, hello, why, **more):
+        self.link.refuse(connection, messages.told(OVER, NO_SESSION, why=why, name=self.host.settings.name, **more), f"{hello['name']}: {why}")
 
     def resume(self, connection, hello, now):
         live = self.host.live
@@ -431,9 +438,17 @@ class Meeting:
             self.link.dial_at = now + AGAIN
             return self.link.trouble.is_so(f"{why}; but the guest that is frozen here went on without a standby, so clients may have been "
                                            "told what isn't known there: it is kept until this daemon is started again")
-        if host.role in ("standby", "frozen"):
+        if "upto" in told and self.can_cut_back(told["upto"]):
+            self.log.info(f"{why}: what this host has beyond that was never let out, and goes")
+            host.cut_back(told["upto"])
+        elif host.role in ("standby", "frozen"):
             self.give_up(why)
         self.link.dial_at = now
+
+    def can_cut_back(self, number: int) -> bool:
+        standby = self.host.standby
+        return (standby is not None and standby.logged is not None and not standby.catching and standby.committed is not None and
+                number < standby.committed and standby.logged.generation == standby.generation)
 
     def give_up(self, why):
         """What this host holds is of no use to anybody."""

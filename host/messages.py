@@ -107,7 +107,7 @@ FIELDS = {
 # What these may have besides, where hosts keep logs. A greeting: logs of that life up to that generation are stale; what was heard of the
 # other host's log; the session of the log behind which this one went live. A refusal by a host that isn't live: what it holds. An offer:
 # whether what was let out is in the live host's log, and the standby is told once it has that too. Who is resumed is told whether he lacks
-# something that was let out.
+# something that was let out; and who is over, up to which number of its generation its log is a beginning of the live one's.
 OF_LOGS = {"outlived_life": TEXTUAL, "outlived_generation": NUMBERS, "heard_life": TEXTUAL, "heard_generation": NUMBERS,
            "heard_number": NUMBERS}
 BESIDES = {
@@ -115,6 +115,7 @@ BESIDES = {
     NO: {**OF_LOGS, "life": TEXTUAL, "generation": NUMBERS, "full": TRUTH, "committed": (int, type(None))},
     OFFER: {"joins": TRUTH},
     RESUME: {"behind": TRUTH},
+    OVER: {"upto": NUMBERS},
 }
 
 

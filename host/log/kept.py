@@ -10,8 +10,9 @@ from host.log.format import Head, LogBehind, Rotten
 from host.log.keeper import Keeper
 from host.log.logged import Logged, Part, parts_of
 from host.log.own import OwnLog
-from host.log.reading import Found, links, newest
+from host.log.reading import Found, judged_log, links, newest
 from host.log.recovery import node_of
+from host.log.writer import cut_back
 from host.node import Node, NodeEnded
 from host.text import COUNT, MOST_PAGE, RECORDS_AT, SECTOR
 
@@ -174,6 +175,15 @@ class Kept:
         if host.standby is not None:
             host.become_empty()
         host.link.dial_at = now + seconds
+
+    def cut_back(self, generation: int, number: int) -> None:
+        """The log that is written ends at an earlier number. Raises OSError, Rotten, LogBehind."""
+        self.keeper.close()
+        self.keeper.close_log()
+        self.keeper = self.new_keeper()
+        found = judged_log(self.disk, self.folder, generation)
+        if found is not None and number < found.number:
+            cut_back(self.disk, self.folder, found, number)
 
     def over(self) -> None:
         """The standby's log is stale, and is never loaded again."""

@@ -43,6 +43,10 @@ class OwnLog(Logged):
         return any((part.generation, part.session) == (generation, session) and number <= (self.given if part.upto is None else part.upto)
                    for part in self.parts if self.given is not None)
 
+    def common(self, session: str, generation: int) -> int | None:
+        """Up to which number of its generation a log is a beginning of this, which was written in that session and goes on beyond."""
+        return next((part.upto for part in self.parts if (part.generation, part.session) == (generation, session)), None)
+
     # What is written.
 
     def piece(self, data: bytes, is_first: bool) -> None:

@@ -84,6 +84,17 @@ def continued(disk: Disk, folder: Path, found: Found) -> LogFile:
     return log
 
 
+def cut_back(disk: Disk, folder: Path, found: Found, number: int) -> None:
+    """A log that was judged ends at an earlier number. Its mark, which knows of more, goes first."""
+    disk.remove(folder / f"{found.generation}.mark")
+    disk.sync_folder(folder)
+    file = disk.open(folder / f"{found.generation}.log")
+    try:
+        disk.cut(file, found.places[number])
+    finally:
+        disk.close(file)
+
+
 class BaseFile:
     """The text of a generation's full checkpoint, piece by piece, with room for so many bytes as it may have at the most. It has its name
     once all of it is on the disk."""
