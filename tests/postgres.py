@@ -64,13 +64,13 @@ class Postgres:
     """A connection."""
 
     def __init__(self, port: int, password: str | None = None, timeout: float = 60, user: str = "me", address: str = "127.0.0.1",
-                 program: str = "") -> None:
+                 program: str = "", database: str = "db") -> None:
         self.socket = socket.create_connection((address, port), timeout)
         self.came, self.status, self.warnings = b"", "", []
         self.copied = bytearray()  # the rows of the copy that was asked last
         self.parameters: dict[str, str] = {}
         self.key = (0, 0)
-        named = {"user": user, "database": "db", **({"application_name": program} if program else {})}
+        named = {"user": user, "database": database, **({"application_name": program} if program else {})}
         parameters = b"".join(string(name) + string(value) for name, value in named.items()) + b"\0"
         self.send(struct.pack(">II", 8 + len(parameters), 196608) + parameters)
         self.log_in(password or "")
