@@ -64,6 +64,7 @@ class Live:
         self.turning, self.turn_wanted = None, False  # into a later generation, for a log
         self.own: OwnLog | None = None  # by which frames are let out, beside the standby's acknowledgements
         self.fetching = 0  # the checkpoint whose text is being fetched for it
+        self.cut_at = -1  # the guest's steps at the last cut
         self.filling: Filling | None = None  # of the standby, from it
         self.heard: tuple[int, int] | None = None  # the last generation and number that the standby has acknowledged
         self.told_log_at = 0.0  # when the standby was told what is in this host's own log
@@ -331,7 +332,9 @@ class Live:
 
     def end_epoch(self, now: float) -> None:
         """Of a guest that stands, where a cut is possible: what it did since the last one is in a checkpoint too."""
-        if self.cut is not None and len(self.pending) < MOST_PENDING and not (self.turning is not None and self.turning.left):
+        if self.cut is None or self.steps == self.cut_at or len(self.pending) >= MOST_PENDING:
+            return
+        if self.turning is None or not self.turning.left:
             self.was_cut(now, *self.tell(*self.cut_lines()))
 
     def cut_lines(self):
@@ -352,7 +355,7 @@ class Live:
         self.outbox, self.is_full = 0, False
         if not self.pending:
             self.acked_at = now
-        self.cut = cut.number(2)
+        self.cut, self.cut_at = cut.number(2), self.steps
         self.pending[self.cut] = Pending(cut.number(3), True, now)
         self.pacer.was_cut()
         self.counts.epochs += 1
