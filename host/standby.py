@@ -6,6 +6,7 @@ from host.log.catch_up import CatchUp
 from host.log.format import Head
 from host.log.kept import StandbyLog
 from host.node import STEPS, Node, Refused, piece
+from host.turned_snapshot import Turned
 
 
 class Broken(Exception):
@@ -175,7 +176,7 @@ class Standby:
             self.steps_seen = self.steps()
         self.takes, self.has_asked = later, False
         if self.logged is None:
-            self.catching.append(self.in_memory(node, later))
+            self.catching.append(self.in_memory(node, later, generation, number))
             self.generation = later
             self.acknowledge(0, now)
             if node is not None:
@@ -184,10 +185,12 @@ class Standby:
             self.logged.turn(later, self.is_joined or self.joins)
             self.catching.append(self.logged.catch_up(node))
 
-    def in_memory(self, node: Node | None, later: int) -> CatchUp:
-        """What makes the node of a later generation where no log is kept."""
+    def in_memory(self, node: Node | None, later: int, generation: int, number: int) -> CatchUp:
+        """What makes the node of a later generation where no log is kept; a snapshot that is asked for is made by it."""
+        saving = self.host.saving
+        also = saving.begins(generation, number) if isinstance(saving, Turned) and saving.at is None else None
         kept, head = self.host.kept, Head(self.life, *self.shape, self.session.hex(), self.host.instance, "")
-        return CatchUp(node, self.host.settings.node, kept.disk, None, head, later, 0, kept.keeper.wake)
+        return CatchUp(node, self.host.settings.node, kept.disk, None, head, later, 0, kept.keeper.wake, also)
 
     def catch_up(self) -> None:
         """The node of the next later generation takes this one's place, once it is made. Raises NodeEnded."""

@@ -12,6 +12,7 @@ from host.node import Refused
 from host.saving import Saving
 from host.snapshot import NoBoot, NotASnapshot, boot_over, load
 from host.tasks import Answer, Asker, Drain, Promotion, Tell, refusal
+from host.turned_snapshot import Turned
 
 
 class Once:
@@ -213,6 +214,8 @@ class Verbs:
         try:
             if at is not None:
                 host.saving = Saving(host, at, file, answer)
+            elif host.standby is not None:
+                host.saving = Turned(host, file, answer, time.monotonic())
             else:
                 host.task = Save(host, file, answer, time.monotonic())
         except OSError as error:
@@ -222,13 +225,15 @@ class Verbs:
     def why_not_saved(self) -> Answer | None:
         """The refusal of a host without a log."""
         host = self.host
-        if host.role == "standby":
-            return refusal("NotLogged", "this host keeps no log, or has none yet: save at the live host, if that keeps one")
+        if host.standby is not None and (host.standby.logged is not None or not host.standby.is_full):
+            return refusal("NoCheckpoint", "no full checkpoint of the guest is here")
+        if host.standby is not None:
+            return None if host.link.is_up else refusal("NotLinked", "this host keeps no log, and has no link to its live host, which has to "
+                                                                     "turn its guest over for a snapshot")
         if host.live is None:
             return refusal("NotLive", f"this host is {host.role}")
         if host.live.mode != ALONE:
-            return refusal("NotAlone", "this host has a standby, and keeps no log of its own, as with log = both: save at the standby, if that "
-                           "keeps one, or stop it and tell 'alone' first")
+            return refusal("NotAlone", "this host has a standby, and keeps no log of its own, as with log = both: save at the standby")
         return None
 
 

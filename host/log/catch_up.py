@@ -5,11 +5,11 @@ from collections.abc import Callable
 from pathlib import Path
 
 from host.log.disk import Disk
-from host.log.format import Head
+from host.log.format import Head, Rotten
 from host.log.recovery import handed_over
 from host.log.writer import BaseFile
 from host.making import Making
-from host.node import Node
+from host.node import Node, NodeEnded, Refused
 
 CHUNK, RATE = 1 << 18, 32e6  # bytes that are synced at a time, and bytes a second
 
@@ -32,11 +32,12 @@ class PacedBase(BaseFile):
 
 class CatchUp(Making):
     """`node` is closed, and another one is made of it; it may be known only later. `wrong` is why no base was written, as where no log is
-    kept, and `folder` is None."""
+    kept, and `folder` is None. `also` gets the full checkpoint too."""
 
     def __init__(self, node: Node | None, command: list[str], disk: Disk, folder: Path | None, head: Head, generation: int, most: int,
-                 told: Callable[[], None]) -> None:
+                 told: Callable[[], None], also: "Writing | None" = None) -> None:
         super().__init__(node, generation, told)
+        self.also = also
         self.command, self.disk, self.folder, self.head, self.most = command, disk, folder, head, most
         self.base: PacedBase | None = None
         self.wrong: str | None = None if folder else "no log is kept"
@@ -44,8 +45,20 @@ class CatchUp(Making):
 
     def make(self) -> None:
         self.tried(lambda: self.begin())
-        self.made = handed_over(self.node, self.command, self.head, self.generation, lambda data: self.tried(lambda: self.base.write(data)))
+        try:
+            self.made = handed_over(self.node, self.command, self.head, self.generation, self.take)
+        except (NodeEnded, Refused, Rotten):
+            if self.also is not None:
+                self.also.leave()
+            raise
+        if self.also is not None:
+            self.also.ends()
         self.tried(lambda: self.base.finish())
+
+    def take(self, data: bytes) -> None:
+        self.tried(lambda: self.base.write(data))
+        if self.also is not None:
+            self.also.put(data)
 
     def tried(self, part: Callable[[], None]) -> None:
         """The base may fail, and the log goes on without: it stands on the earlier one."""
