@@ -187,7 +187,7 @@ class Daemon:
         answer = self.node.ask("golive")
         standby, self.standby = self.standby, None
         live = Live(self, answer.number(1), answer.number(3), now)
-        if not standby.is_kept or self.kept.is_both or not self.is_followed(live, standby, now):
+        if not standby.is_kept or not self.is_followed(live, standby, now):
             if word is not None:
                 self.link.send(word, now)
             self.link.close()
@@ -196,7 +196,10 @@ class Daemon:
         self.log.info(f"live in generation {self.generation}, from step {self.live.steps}")
 
     def is_followed(self, live: Live, standby: Standby, now: float) -> bool:
-        """Has the host that keeps the guest be the standby."""
+        """Has the host that keeps the guest be the standby, once this host's own log goes on, where it has one."""
+        if self.kept.is_both and standby.logged is not None:
+            live.kept_in, live.standby, self.meeting.attached_at = standby.session, self.peer, now
+            return True
         try:
             turn_to(live, standby.session, self.peer, standby.generation, standby.committed, now)
         except Refused as refused:
@@ -217,17 +220,17 @@ class Daemon:
         self.network.up()
         self.network.put(network.announcement(self.settings.guest_address))
 
-    def freeze(self) -> None:
-        """The guest stops, and is kept, but for no other host."""
+    def freeze(self, is_cut: bool = False) -> None:
+        """The guest stops, and is kept, but for no other host. `is_cut`: it has stopped, and its last checkpoint is cut."""
         self.leave_heir()
         self.link.close()
-        self.keep(self.link.now())
+        self.keep(self.link.now(), is_cut)
         self.quiet_network()
 
-    def keep(self, now: float) -> None:
+    def keep(self, now: float, is_cut: bool) -> None:
         """The guest stops, and is kept. Its network goes down once what follows is said: the kernel may take some ten milliseconds for it."""
         self.live.stop(now)
-        if self.live.own is not None:
+        if self.live.own is not None and not is_cut:
             self.live.end_epoch(now)
         self.live.is_frozen, self.quiet_at = True, now + QUIET_AFTER
         self.log.info("frozen: the guest is kept, and doesn't run")
@@ -248,8 +251,9 @@ class Daemon:
     # A hand-over to a host that this one follows.
 
     def have_heir(self) -> None:
-        """Begins to make one. A host that keeps logs follows nobody: what it takes is to be on its disk, from the full checkpoint on."""
-        if not self.kept.keeps:
+        """Begins to make one. Where logs are kept, but a live host has none, there is none: what it takes is to be on its disk, from the full
+        checkpoint on."""
+        if not self.kept.keeps or self.live.own is not None and self.live.own.failed is None:
             heir = Heir(self)
             heir.start()
             self.heir = heir
@@ -270,7 +274,7 @@ class Daemon:
         if self.heir is not None:
             self.link.send(messages.message(messages.KEEPS, self.session, messages.NUMBER.pack(self.generation, self.live.acked)), now)
 
-    def follow(self, generation: int, number: int, later: int, now: float) -> None:
+    def follow(self, generation: int, number: int, later: int, session: bytes, now: float) -> None:
         """The standby went live from where the guest stands here. This host is its standby, as long as its node doesn't refuse."""
         live, heir = self.live, self.heir
         if (generation, number, later) != (live.generation, live.acked, heir.generation):
@@ -282,7 +286,9 @@ class Daemon:
             self.link.send(self.meeting.declining(str(refused), live.session), now)
             return self.task.is_live() if self.is_draining else self.become_empty()
         self.live = self.heir = None
-        self.standby, self.peer = Standby(self, live.session, self.life, later, self.shape), live.standby
+        self.link.rename(session)
+        logged = self.kept.following(live.own) if live.own is not None else None
+        self.standby, self.peer = Standby(self, session, self.life, generation, self.shape, logged), live.standby
         self.counts.attachments += 1
         self.meeting.is_told("live", now)
         self.log.info(f"{self.peer[0]} is live from where the guest stood here, and this host is its standby, for generation {later}")
@@ -324,8 +330,8 @@ class Daemon:
             self.live.acknowledge(generation, number, now)
         elif kind == messages.LONG:
             self.live.turn_wanted = True
-        elif self.keeps and kind == messages.TURN:
-            self.follow(*messages.turned(body), now)
+        elif self.keeps and kind == messages.FOLLOW:
+            self.follow(*messages.followed(body), now)
         elif self.is_handing_over and kind in (messages.LIVE, messages.STAYS):
             self.heard_of_hand_over(kind, body, now)
         elif self.live.is_unfollowed and kind == messages.NO:

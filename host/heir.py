@@ -49,7 +49,8 @@ class Heir(threading.Thread):
 
 
 class Following(Making):
-    """Fills an heir."""
+    """Fills an heir. Where a log is kept no base is written: the later generation stands on the earlier one's log."""
+    wrong, is_hurried = "no base is written", True
 
     def __init__(self, node: Node, heir: Heir, told: Callable[[], None]) -> None:
         super().__init__(node, heir.generation, told)

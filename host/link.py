@@ -52,6 +52,10 @@ class Link:
     def has(self, session: bytes) -> bool:
         return self.connection is not None and self.session == session
 
+    def rename(self, session: bytes) -> None:
+        """The attachment has another name from now on, at both ends."""
+        self.session = session
+
     def has_room(self) -> bool:
         return self.connection is not None and self.connection.has_room()
 

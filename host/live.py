@@ -62,6 +62,7 @@ class Live:
         self.is_stopped = self.is_frozen = False  # for a drain, or since the host is frozen
         self.held = 0
         self.turning, self.turn_wanted = None, False  # into a later generation, for a log
+        self.kept_in: bytes | None = None  # the attachment's name under which `standby` keeps the guest as it is where this host goes live
         self.own: OwnLog | None = None  # by which frames are let out, beside the standby's acknowledgements
         self.fetching = 0  # the checkpoint whose text is being fetched for it
         self.cut_at = -1  # the guest's steps at the last cut
@@ -106,7 +107,7 @@ class Live:
     @property
     def is_unfollowed(self) -> bool:
         """Whether the host that was live before keeps its guest, and doesn't follow this one yet: nothing was let out here."""
-        return self.mode == FILLING and self.turning is not None and self.own is None
+        return self.turning is not None and self.turning.kept_in is not None
 
     @property
     def waits(self):
@@ -589,7 +590,9 @@ class Live:
     def go_on_with_log(self, own: OwnLog, now: float) -> None:
         """The log of the standby that this host was goes on as its own."""
         self.own = own
-        self.turning = turning.after_going_live(own)
+        self.turning = turning.after_going_live(own, self.kept_in)
+        if self.kept_in is not None:  # who keeps the guest is the standby, without whom nothing is let out
+            self.session, self.mode = bytes.fromhex(own.head.session), PAIRED
         turning.go_on(self, now)
 
     def attach(self, session, standby, now):
@@ -678,6 +681,8 @@ class Live:
         """It goes on by its own log, and turns at the next cut, so that the standby's log is one of an earlier generation: unless the standby
         hadn't caught up, and couldn't go live by what it has."""
         needs_turn = self.needs_standby
+        if self.turning is not None:
+            self.turning.kept_in = None
         self.leave_filling()
         self.mode, self.session, self.standby, self.successor, self.heard = ALONE, None, None, None, None
         self.release(now)

@@ -103,6 +103,8 @@ class Meeting:
         if hello["role"] == "live":
             return self.met_another_live(connection, hello)
         is_frozen = hello["role"] == "frozen"
+        if is_frozen and live.turning is not None and live.turning.is_kept(hello["session"], hello["generation"], hello["committed"]):
+            return self.resume_kept(connection, hello, now)
         if live.own is not None and self.is_beginning(hello):
             return self.resume_from_log(connection, hello, now)
         if live.own is not None and (upto := self.common(hello)) is not None:
@@ -132,8 +134,8 @@ class Meeting:
         does the host that was live before and kept the guest."""
         live = self.host.live
         is_anew = live.standby is not None and hello["name"] == live.standby[0] and hello["instance"] != live.standby[1]
-        is_unfilled = live.is_unfollowed or not live.is_fetched if live.own is None else not live.needs_standby
-        if is_anew and live.mode == FILLING and is_unfilled and self.host.task is None:
+        is_unfilled = not live.is_fetched if live.own is None else not live.needs_standby
+        if is_anew and (live.is_unfollowed or live.mode == FILLING and is_unfilled) and self.host.task is None:
             had = "all of the full checkpoint was sent" if live.own is None else "it had all that was let out"
             self.log.info(f"{hello['name']} has begun anew, before {had}: it is filled anew")
             self.is_lost(now)
@@ -356,6 +358,16 @@ class Meeting:
 
     def over_for(self, connection, hello, why, **more):
         self.link.refuse(connection, messages.told(OVER, NO_SESSION, why=why, name=self.host.settings.name, **more), f"{hello['name']}: {why}")
+
+    def resume_kept(self, connection: Connection, hello: dict, now: float) -> None:
+        """Who keeps the guest, from which this host went live, is told to follow."""
+        turn = self.host.live.turning
+        connection.send(messages.told(RESUME, turn.kept_in, name=self.host.settings.name, instance=self.host.instance))
+        self.link.attach(connection, turn.kept_in, now)
+        self.log.info(f"the link to {hello['name']} is back")
+        if not turn.left:
+            turn.tell(self.host.live, now)
+        self.compare(now)
 
     def resume(self, connection, hello, now):
         live = self.host.live

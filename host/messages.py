@@ -19,22 +19,23 @@ before there is one), and its body:
     12 STAYS    who was told so: JSON, why it isn't live. The other one's guest goes on
     13 LONG     the standby: its log is long, and is to go on with a later generation
     14 TURN     who is live: a generation and a number (8 bytes each), and a later generation, whose checkpoint 0 is the guest as it is
-                there. No text of it comes; the standby acknowledges it as any other. So it does who said KEEPS, and is the standby then
+                there. No text of it comes; the standby acknowledges it as any other
     15 JOIN     who is live, to a standby that was filled from its log: generation and number of the last checkpoint that was sent. From
                 there on nothing is let out that the standby hasn't acknowledged
-    16 KEEPS    who was live, and has drained and stopped: generation and number of the last checkpoint, with which it keeps its guest. Who
-                goes live from there says TURN
+    16 KEEPS    who was live, and has drained and stopped: generation and number of the last checkpoint, with which it keeps its guest
+    17 FOLLOW   who went live from there: as TURN, and the attachment's name from then on. Who keeps the guest is its standby
 
 FIELDS has the fields of the JSON objects."""
 import json
 import struct
 
-HELLO, OFFER, READY, RESUME, NO, OVER, TEXT, ACK, PING, GO_LIVE, LIVE, STAYS, LONG, TURN, JOIN, KEEPS = range(1, 17)
+HELLO, OFFER, READY, RESUME, NO, OVER, TEXT, ACK, PING, GO_LIVE, LIVE, STAYS, LONG, TURN, JOIN, KEEPS, FOLLOW = range(1, 18)
 LENGTH, HEAD = struct.Struct(">I"), struct.Struct(">IB16s")
 PLACE = struct.Struct(">QQQQ")  # of a text's bytes: generation, number, where they begin, and how many the whole text has, at most
 TEXT_HEAD = struct.Struct(">IB16sQQQQ")  # both
 NUMBER = struct.Struct(">QQ")  # generation and number
 TURNED = struct.Struct(">QQQ")  # generation, number, later generation
+FOLLOWED = struct.Struct(">QQQ16s")  # the same, and an attachment's name
 NO_SESSION = bytes(16)
 MOST_BEFORE = 4096  # bytes of a message, before the two hosts have met
 MOST = 1 << 20
@@ -70,6 +71,10 @@ def turn(session: bytes, generation: int, number: int, later: int) -> bytes:
     return message(TURN, session, TURNED.pack(generation, number, later))
 
 
+def follow(session: bytes, generation: int, number: int, later: int, after: bytes) -> bytes:
+    return message(FOLLOW, session, FOLLOWED.pack(generation, number, later, after))
+
+
 def taken(buffer, most):
     """The messages that are whole in a bytearray, which then has the rest: triples of kind, session and body. Where that begins with a longer
     one it is Malformed, once nothing stands before it: by what does, longer ones may be due."""
@@ -78,7 +83,7 @@ def taken(buffer, most):
         length, kind, session = HEAD.unpack_from(buffer, at)
         if not 17 <= length <= most:
             break
-        if not HELLO <= kind <= KEEPS:
+        if not HELLO <= kind <= FOLLOW:
             raise Malformed(f"a message of kind {kind}")
         begin, behind = at + HEAD.size, at + LENGTH.size + length
         if behind > end:
@@ -163,6 +168,13 @@ def turned(body: bytes) -> tuple[int, int, int]:
     if len(body) != TURNED.size:
         raise Malformed("a turn of a wrong length")
     return TURNED.unpack(body)
+
+
+def followed(body: bytes) -> tuple[int, int, int, bytes]:
+    """A body's generation, number, later generation, and the attachment's name from then on."""
+    if len(body) != FOLLOWED.size:
+        raise Malformed("a word to follow of a wrong length")
+    return FOLLOWED.unpack(body)
 
 
 def place(body):

@@ -211,11 +211,16 @@ class Standby:
             self.catch_up()
 
     def follow(self, following: "Following", steps: int, now: float) -> None:
-        """It is the standby from where its own guest stands, which that makes its node of."""
+        """It is the standby of a later generation, from where its own guest stands, which that makes its node of."""
         self.catching.append(following)
-        self.steps_seen = steps
-        self.acknowledge(0, now)
-        following.begin_once()
+        self.takes, self.steps_seen = following.generation, steps
+        if self.logged is not None:
+            self.logged.belongs_to(self.session.hex(), self.host.instance)
+            self.logged.turn(self.takes, True)  # it is acknowledged once that is on the disk
+        else:
+            self.generation = self.takes
+            self.acknowledge(0, now)
+            following.begin_once()
 
     def leave(self) -> None:
         """It is none any more, and its node is killed."""

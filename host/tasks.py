@@ -85,7 +85,7 @@ class Drain:
                 link.send(go_live(live.session, live.generation, self.last), now)
             self.told_over = link.connection
         if host.heir is not None and not host.is_frozen:
-            host.keep(now)
+            host.keep(now, is_cut=True)
         if not self.promotes:
             self.finish("the standby has all, and can be promoted", "this host keeps the guest, and doesn't run it")
 
@@ -114,7 +114,7 @@ class Drain:
         host, live = self.host, self.live
         host.task, leaves = None, host.live is live and not host.keeps
         if leaves and not self.promotes:
-            host.freeze()
+            host.freeze(is_cut=True)
             leaves = False
         if leaves:
             host.give_up()

@@ -16,12 +16,13 @@ LINES = b"protect", b"alone", b"protect"
 
 class Turn:
     """`before` is the generation that ends at checkpoint `number`, `texts` its texts that aren't acknowledged; `left` the node's lines that
-    are to come, since it refused one for want of memory; `frames` are held."""
+    are to come, since it refused one for want of memory; `frames` are held. `kept_in` is the attachment's name under which another host
+    keeps the guest as it stood there, and is to follow this one."""
 
     def __init__(self, before: int, number: int, texts: OrderedDict[int, bytes], acked: int | None,
-                 left: tuple[bytes, ...] = LINES) -> None:
+                 left: tuple[bytes, ...] = LINES, kept_in: bytes | None = None) -> None:
         self.before, self.number, self.texts, self.acked = before, number, texts, acked
-        self.left, self.frames = list(left), []
+        self.left, self.frames, self.kept_in = list(left), [], kept_in
 
     def heard(self, number: int | None) -> None:
         """The standby has committed all of the earlier generation up to this number."""
@@ -37,8 +38,15 @@ class Turn:
                 for at in range(begin if number == first else 0, len(text), PIECE):
                     live.link.send(messages.text(live.session, self.before, number, at, len(text), text[at:at + PIECE]), now)
 
+    def is_kept(self, session: str | None, generation: int, committed: int | None) -> bool:
+        """Whether a host that comes keeps the guest so."""
+        return self.kept_in is not None and (session, generation, committed) == (self.kept_in.hex(), self.before, self.number)
+
     def tell(self, live: "Live", now: float) -> None:
-        if live.is_linked:
+        if self.kept_in is not None and live.link.has(self.kept_in):
+            live.link.send(messages.follow(self.kept_in, self.before, self.number, live.generation, live.session), now)
+            live.link.rename(live.session)
+        elif live.is_linked:
             live.link.send(messages.turn(live.session, self.before, self.number, live.generation), now)
 
 
@@ -70,18 +78,18 @@ def hand_all(live: "Live", now: float) -> None:
         live.filling.turns()
 
 
-def after_going_live(own: "OwnLog") -> Turn:
+def after_going_live(own: "OwnLog", kept_in: bytes | None) -> Turn:
     """Of a standby that has just gone live, whose log goes on."""
-    return Turn(own.generation, own.given, OrderedDict(), None, left=(b"protect",))
+    return Turn(own.generation, own.given, OrderedDict(), None, (b"protect",), kept_in)
 
 
 def turn_to(live: "Live", session: bytes, standby: tuple[str, str], before: int, number: int, now: float) -> None:
-    """The host that was live keeps its guest as it stood at that checkpoint, from which this one went on: it is the standby. Raises
-    Refused."""
+    """The host that was live keeps its guest as it stood at that checkpoint, from which this one went on, without a log of its own: it is the
+    standby. Raises Refused."""
     live.protect(now)
     live.begin_generation(now)
     live.session, live.standby = session, standby
-    live.turning = Turn(before, number, OrderedDict(), number, left=())
+    live.turning = Turn(before, number, OrderedDict(), number, (), session)
     live.turning.tell(live, now)
 
 

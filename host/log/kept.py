@@ -229,6 +229,11 @@ class Kept:
         own.begun_at = None
         return own
 
+    def following(self, own: OwnLog) -> StandbyLog:
+        """The log of a live host that is the standby of another one from now on."""
+        own.leave()
+        return StandbyLog(self, own.head, own.generation, own.given, own.parts)
+
     def end_what_is_here(self) -> None:
         if not self.disk.names(self.folder):
             return
