@@ -61,8 +61,8 @@ class Turned(Writing):
         if self.error is not None:
             return refusal("File", f"{self.path} can't be written: {self.error.strerror}")
         if self.at is None:
-            return refusal("TimedOut", f"the live host didn't turn its guest over within {PATIENCE:.0f} s, as it has to for a standby without "
-                                       "a log")
+            return refusal("TimedOut", f"the live host didn't turn its guest over within {PATIENCE:.0f} s, as it has to for a standby "
+                                       "without a log")
         if self.bytes is None:
             return refusal("Node", "the node that was to make it ended, or refused")
         told, (generation, number) = f"saved {self.bytes} bytes as {self.path}", self.at

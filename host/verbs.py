@@ -228,8 +228,8 @@ class Verbs:
         if host.standby is not None and (host.standby.logged is not None or not host.standby.is_full):
             return refusal("NoCheckpoint", "no full checkpoint of the guest is here")
         if host.standby is not None:
-            return None if host.link.is_up else refusal("NotLinked", "this host keeps no log, and has no link to its live host, which has to "
-                                                                     "turn its guest over for a snapshot")
+            return None if host.link.is_up else refusal("NotLinked", "this host keeps no log, and has no link to its live host, which "
+                                                                     "has to turn its guest over for a snapshot")
         if host.live is None:
             return refusal("NotLive", f"this host is {host.role}")
         if host.live.mode != ALONE:

@@ -94,42 +94,58 @@ def exported(plan: argparse.Namespace) -> tuple[list[str], int]:
 
 
 def said(plan: argparse.Namespace) -> tuple[list[str], int]:
+    """Raises Rotten, LogBehind, OSError."""
+    folder, listing = folder_of(plan), Listing(Disk(), folder_of(plan), plan.copy is not None, plan.verb == "check")
+    for room in rooms(listing.disk, folder):
+        for generation in generations(listing.disk, room):
+            listing.look(room, generation)
+    return listing.told()
+
+
+class Listing:
     """A line for each log, the latest generation first, and one for each guest. A copy's log that isn't whole is one that is damaged, where
     it is checked. Raises Rotten, LogBehind, OSError."""
-    disk, folder, is_copy, checks = Disk(), folder_of(plan), plan.copy is not None, plan.verb == "check"
-    counts, lines, spans, status = None if is_copy else newest(disk, folder), [], {}, WHOLE
-    for room in rooms(disk, folder):
-        for generation in generations(disk, room):
-            try:
-                found, more = looked_at(disk, room, generation, checks, is_copy, room == folder)
-            except (Rotten, LogBehind) as error:
-                if not is_copy:
-                    raise
-                lines.append(f"generation {generation}: passed over, {type(error).__name__}: {error}")
-                status = DAMAGED if checks else WHOLE
-                continue
-            if found is not None:
-                how = "of the past" if room != folder else "over" if found.is_over else "the one that counts" if is_it(found, counts) else "an earlier one"
-                lines.append(described(found, how) + more)
-                begun, ended = spans.get(found.head.life, (found.begun, found.ended))
-                spans[found.head.life] = min(begun, found.begun), max(ended, found.ended)
-    lines += [f"the guest of life {life} can be had as it was from {at(begun)} to {at(ended)}" for life, (begun, ended) in spans.items()]
-    return lines or [f"no log is in {folder}"], DAMAGED if is_copy and not spans else status
 
+    def __init__(self, disk: Disk, folder: Path, is_copy: bool, checks: bool) -> None:
+        self.disk, self.folder, self.is_copy, self.checks = disk, folder, is_copy, checks
+        self.counts = None if is_copy else newest(disk, folder)
+        self.lines: list[str] = []
+        self.spans: dict[str, tuple[int, int]] = {}  # by life, from when to when
+        self.status = WHOLE
 
-def looked_at(disk: Disk, room: Path, generation: int, checks: bool, is_copy: bool, is_first: bool) -> tuple[Found | None, str]:
-    """A log, and what is said of it besides. One of the past is read as a whole only where it is to be checked. Raises Rotten, LogBehind,
-    OSError."""
-    if not (checks or is_copy or is_first):
-        return outlined(disk, room, generation), ""
-    if (course := course_of(disk, room, generation, is_copy)) is None:
-        return None, ""
-    return course.last, f", {check_all(disk, room, course.logs)} bytes of texts, all as written" if checks else ""
+    def look(self, room: Path, generation: int) -> None:
+        try:
+            found, more = self.read(room, generation)
+        except (Rotten, LogBehind) as error:
+            if not self.is_copy:
+                raise
+            self.lines.append(f"generation {generation}: passed over, {type(error).__name__}: {error}")
+            self.status = DAMAGED if self.checks else WHOLE
+            return
+        if found is not None:
+            self.lines.append(described(found, self.how(found, room)) + more)
+            begun, ended = self.spans.get(found.head.life, (found.begun, found.ended))
+            self.spans[found.head.life] = min(begun, found.begun), max(ended, found.ended)
 
+    def read(self, room: Path, generation: int) -> tuple[Found | None, str]:
+        """A log, and what is said of it besides. One of the past is read as a whole only where it is to be checked."""
+        if not (self.checks or self.is_copy or room == self.folder):
+            return outlined(self.disk, room, generation), ""
+        if (course := course_of(self.disk, room, generation, self.is_copy)) is None:
+            return None, ""
+        return course.last, f", {check_all(self.disk, room, course.logs)} bytes of texts, all as written" if self.checks else ""
 
-def is_it(found: Found, counts: Found | None) -> bool:
-    """Whether it is the log that counts; it may have grown meanwhile."""
-    return counts is not None and found.generation == counts.generation
+    def how(self, found: Found, room: Path) -> str:
+        if room != self.folder:
+            return "of the past"
+        if found.is_over:
+            return "over"
+        return "the one that counts" if self.counts is not None and found.generation == self.counts.generation else "an earlier one"
+
+    def told(self) -> tuple[list[str], int]:
+        lines = [*self.lines, *(f"the guest of life {life} can be had as it was from {at(begun)} to {at(ended)}"
+                                for life, (begun, ended) in self.spans.items())]
+        return lines or [f"no log is in {self.folder}"], DAMAGED if self.is_copy and not self.spans else self.status
 
 
 def described(found: Found, how: str) -> str:

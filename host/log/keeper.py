@@ -21,9 +21,9 @@ Job = tuple[Callable[..., None], ...]
 
 
 class Keeper:
-    """`reached` is (session, generation, number): of that attachment all up to there is on the disk, and `is_joined` whether that is all that
-    was let out. `failed` is why nothing more is written, if so. The methods of the loop give what is to be done, and answer at once. What
-    isn't needed any more is kept for so many seconds."""
+    """`reached` is (session, generation, number): of that attachment all up to there is on the disk, and `is_joined` whether that is all
+    that was let out. `failed` is why nothing more is written, if so. The methods of the loop give what is to be done, and answer at once.
+    What isn't needed any more is kept for so many seconds."""
 
     def __init__(self, disk: Disk, folder: Path, keep: float = 0) -> None:
         self.disk, self.folder, self.witness = disk, Path(folder), Witness(disk, folder)
@@ -215,7 +215,7 @@ class Keeper:
 
     def begin_log(self, generation: int, head: Head) -> None:
         base, self.base = self.base, None
-        if self.past is not None and f"{generation}.log" in self.disk.names(self.folder):  # of another life, whose files go under these names
+        if self.past is not None and f"{generation}.log" in self.disk.names(self.folder):  # of another life, whose files have these names
             self.close_log()
             self.tidy(set(), f"{generation}.base.new")
         self.next_log(generation, head._replace(base=base.finish()))

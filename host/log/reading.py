@@ -52,7 +52,8 @@ class LogReader:
         self.size = self.disk.size(self.file)
 
     def header_at(self, place: int) -> tuple[int, int, int] | None:
-        """The kind and the number of the record that begins there, and where the next one does, if its first sector is as it was written."""
+        """The kind and the number of the record that begins there, and where the next one does, if its first sector is as it was
+        written."""
         first = self.disk.read(self.file, SECTOR, place)
         if len(first) < SECTOR or not is_as_written(first, self.seed, place // SECTOR):
             return None

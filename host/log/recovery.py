@@ -12,8 +12,8 @@ MOST_ON_ITS_WAY = 900_000  # bytes of lines to a node, which fit into its pipe
 
 
 def node_of(command: list[str], disk: Disk, folder: Path, made: list[Found], sink: Callable[[bytes], None] = lambda data: None) -> Node:
-    """A node that is the standby whose log that is, beside those on which it stands, it last; where it stands on another one, `sink` gets the
-    full checkpoint of its generation, piece by piece. Raises Rotten, also where a node takes something otherwise than it was written;
+    """A node that is the standby whose log that is, beside those on which it stands, it last; where it stands on another one, `sink` gets
+    the full checkpoint of its generation, piece by piece. Raises Rotten, also where a node takes something otherwise than it was written;
     LogBehind, OSError, NodeEnded."""
     node = Node(command)
     try:
@@ -90,8 +90,8 @@ def sunk(parts: Iterable[bytes], sink: Callable[[bytes], None]) -> Iterator[byte
 
 
 class Ahead:
-    """Tells a node lines, of which some are on their way, so that it needn't wait for each, nor be waited for. Where this raises, answers may
-    be on their way too: the node isn't told anything more then."""
+    """Tells a node lines, of which some are on their way, so that it needn't wait for each, nor be waited for. Where this raises, answers
+    may be on their way too: the node isn't told anything more then."""
 
     def __init__(self, node: Node) -> None:
         self.node, self.size = node, 0

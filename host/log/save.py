@@ -1,5 +1,5 @@
-"""`python3 -m host.log.save LOG ROOM GENERATION NUMBER FILE NODE..`: makes a snapshot of the guest as it was at a checkpoint that is in a log
-which a daemon goes on writing, by a process of low priority. The files are held by links in ROOM, whatever becomes of their names
+"""`python3 -m host.log.save LOG ROOM GENERATION NUMBER FILE NODE..`: makes a snapshot of the guest as it was at a checkpoint that is in a
+log which a daemon goes on writing, by a process of low priority. The files are held by links in ROOM, whatever becomes of their names
 meanwhile. It prints a JSON object: the snapshot's `bytes`, or `refused` and `why`."""
 import json
 import os

@@ -153,8 +153,8 @@ class Mark:
 
 
 def tidy(disk: Disk, folder: Path, kept: set[int], past: Past | None = None, but: str = "") -> None:
-    """Removes what is of other generations than these, whose bases and heads are on the disk, their names too; what `past` keeps goes there.
-    The file of the last name stays.
+    """Removes what is of other generations than these, whose bases and heads are on the disk, their names too; what `past` keeps goes
+    there. The file of the last name stays.
     Marks go first, so that none is left without its log, and then the earliest generation, so that none is left without a later one that
     says that its life is over."""
     others = [name for name in disk.names(folder) if generation_of(name) not in (None, *kept) and name != but]

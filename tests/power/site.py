@@ -60,7 +60,8 @@ def meanwhile(host: Host, verb: str, **fields: object) -> None:
 
 
 class Site:
-    """`live` has the guest and `other` is its standby, or is to be. `mistake` is one of tests/power/mistakes.py; `script` the bank's image."""
+    """`live` has the guest and `other` is its standby, or is to be. `mistake` is one of tests/power/mistakes.py; `script` the bank's
+    image."""
 
     LOG = "standby"
 
@@ -81,8 +82,8 @@ class Site:
         self.list_moments()
 
     def list_moments(self) -> None:
-        self.moments = [self.at_any_time, self.at_any_time, self.in_a_turn, self.in_a_turn, self.in_a_rejoin, self.in_a_drain, self.in_a_save,
-                        self.of_the_standby, self.of_the_live_host, self.going_alone]
+        self.moments = [self.at_any_time, self.at_any_time, self.in_a_turn, self.in_a_turn, self.in_a_rejoin, self.in_a_drain,
+                        self.in_a_save, self.of_the_standby, self.of_the_live_host, self.going_alone]
 
     def __enter__(self) -> Site:
         for one in self.hosts:
@@ -242,5 +243,7 @@ def played(room: Path, cuts: int, seed: int, kind: type[Site] = Site, **how: obj
             wrong = wrong or site.client.judged()
         wrong = wrong or site.past()
         client = site.client
-        seen = {"answers": len(client.numbers)} | ({"downloads": client.loaded, "came": client.progress} if isinstance(client, Visitor) else {})
+        seen = {"answers": len(client.numbers)}
+        if isinstance(client, Visitor):
+            seen |= {"downloads": client.loaded, "came": client.progress}
         return wrong, dict(site.counts) | seen | {"seed": seed, "seconds": round(time.monotonic() - begun)}

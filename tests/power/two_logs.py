@@ -1,5 +1,5 @@
-"""The same where both hosts keep a log, the live one too: either disk has all that was let out while the pair was paired, and the live host's
-at any time, also while a standby is filled, in a turn, and right after it was told that it is alone."""
+"""The same where both hosts keep a log, the live one too: either disk has all that was let out while the pair was paired, and the live
+host's at any time, also while a standby is filled, in a turn, and right after it was told that it is alone."""
 from __future__ import annotations
 
 import time
@@ -134,7 +134,8 @@ class TwoLogs(Site):
         meanwhile(self.live, "drain", promote=True)
         self.pause(0.1)
         self.cut_both("in a hand-over")
-        found = [(log.generation, log.number) if log else (0, 0) for log in (newest(Disk(), log_of(one)) for one in (self.live, self.other))]
+        logs = [newest(Disk(), log_of(one)) for one in (self.live, self.other)]
+        found = [(log.generation, log.number) if log else (0, 0) for log in logs]
         if found[1] > found[0]:
             self.live, self.other = self.other, self.live
         self.recover_by_live()

@@ -5,8 +5,8 @@ import struct
 import threading
 import time
 
-from guests.lib.frames import (ACK, ARP, EVERYONE, GUEST_IP, GUEST_MAC, PSH, REPLY, RST, SYN, TCP, arp, client_ip, client_mac, from_client, ipv4,
-                               is_whole, kind, payload, tcp, tcp_data)
+from guests.lib.frames import (ACK, ARP, EVERYONE, GUEST_IP, GUEST_MAC, PSH, REPLY, RST, SYN, TCP, arp, client_ip, client_mac, from_client,
+                               ipv4, is_whole, kind, payload, tcp, tcp_data)
 from host.started import Hub
 from tests.served import big
 
