@@ -234,16 +234,15 @@ class Site:
 
 def played(room: Path, cuts: int, seed: int, kind: type[Site] = Site, **how: object) -> tuple[str | None, dict]:
     """A site whose power is cut so often: what is wrong, and what was counted."""
-    begun = time.monotonic()
+    begun, wrong = time.monotonic(), None
     with kind(room, seed, **how) as site:
-        wrong = None
         while site.counts["power cuts"] < cuts and wrong is None:
             wrong = site.round()
-        if isinstance(site.client, Teller):
-            wrong = wrong or site.client.judged()
-        wrong = wrong or site.past()
         client = site.client
-        seen = {"answers": len(client.numbers)}
-        if isinstance(client, Visitor):
-            seen |= {"downloads": client.loaded, "came": client.progress}
-        return wrong, dict(site.counts) | seen | {"seed": seed, "seconds": round(time.monotonic() - begun)}
+        if isinstance(client, Teller) and (lost := client.judged()):
+            wrong = f"{lost}; {wrong}"
+    wrong = wrong or site.past()
+    seen = {"answers": len(client.numbers)}
+    if isinstance(client, Visitor):
+        seen |= {"downloads": client.loaded, "came": client.progress}
+    return wrong, dict(site.counts) | seen | {"seed": seed, "seconds": round(time.monotonic() - begun)}
