@@ -9,8 +9,8 @@
  * either one. Printed are microseconds an epoch: the clock's; then the processor time of the primary, or of `live`, of the standby, and of
  * this process, as the kernel charges it (/proc/PID/schedstat).
  *
- * Lines are sent ahead: an epoch's `step`, `cut` and all its `text` lines at once, as soon as fewer than four are pending. One thread hands
- * on what the primary answers: digits go from its pipe to the standby's by splice, behind the word `piece`. Another one reads what the standby
+ * Lines are sent ahead: an epoch's `step`, `cut` and all its `rawtext` lines at once, as soon as fewer than four are pending. One thread
+ * hands on what the primary answers: bytes go from its pipe to the standby's by splice, behind a line `rawpiece`. Another one reads what the standby
  * answers, and acknowledges in order. Each answer is compared with the one that must come. */
 #define _GNU_SOURCE
 #include <fcntl.h>
@@ -33,11 +33,10 @@ typedef struct {
     size_t next, end;
 } Node;
 
-/* What the primary answers next: the beginning of a line, or all of it where no digits follow; a text may end with these. An empty line is
- * the end. */
+/* What the primary answers next: a line, and how many bytes of a text follow it, which may end with these. An empty line is the end. */
 typedef struct {
     char line[SHORT];
-    size_t digits;
+    size_t bytes;
     int ends;
 } Answer;
 
@@ -184,13 +183,13 @@ static sem_t awaited, free_places;
 static Answer queue[QUEUE];
 static size_t queued;
 
-__attribute__((format(printf, 3, 4))) static void await(size_t digits, int ends, const char *form, ...) {
+__attribute__((format(printf, 3, 4))) static void await(size_t bytes, int ends, const char *form, ...) {
     Answer *answer = &queue[queued++ % QUEUE];
     va_list given;
     va_start(given, form);
     vsnprintf(answer->line, sizeof answer->line, form, given);
     va_end(given);
-    answer->digits = digits, answer->ends = ends;
+    answer->bytes = bytes, answer->ends = ends;
     sem_post(&awaited);
 }
 
@@ -205,8 +204,8 @@ static void send_epoch(int number) {
     await(0, 0, "cut 2 %d %zu\n", number, length);
     for (size_t at = 0; at < length; at += part) {
         size_t count = least(part, length - at);
-        fprintf(out, "text %d %zu %zu\n", number, at, count);
-        await(2 * count, at + count == length, "text ");
+        fprintf(out, "rawtext %d %zu %zu\n", number, at, count);
+        await(count, at + count == length, "rawtext %zu\n", count);
     }
     fclose(out);
     put(first.to, text, size);
@@ -224,10 +223,10 @@ static void *carry(void *unused) {
             return unused;
         get(first.from, came, strlen(answer->line));
         compare(came, answer->line);
-        if (answer->digits == 0)
+        if (answer->bytes == 0)
             continue;
-        put(second.to, "piece ", strlen("piece "));
-        for (size_t left = answer->digits + strlen("\n"); left > 0;) {
+        tell(&second, "rawpiece %zu\n", answer->bytes);
+        for (size_t left = answer->bytes + strlen("\n"); left > 0;) {
             ssize_t moved = splice(first.from, NULL, second.to, NULL, left, 0);
             if (moved <= 0)
                 fail("splice");

@@ -1,19 +1,25 @@
 """Runs of two nodes under a bag of messages: texts and acknowledgements that are lost, doubled, late, broken off in mid-text, or of an
 older generation, while hosts stop and new standbys come. Each line's answer is that of oracle/nodes.py, which the generator plays as it
 writes. Beside the lines of each host stands what the pair of docs/PROTOCOL.md does meanwhile, as a script for `remus sim`."""
+import random
 from dataclasses import dataclass, field
 
 from fuzz.spellings import COMMENTS
 from oracle import mirror, strider
 from oracle.history import BOX_FRAMES, targets
-from oracle.nodes import ALONE, FILLING, MOST_PENDING, PAGES_AT, Node
+from oracle.nodes import ALONE, FILLING, MOST_PENDING, PAGES_AT, Node, printed, raw_piece, text_bytes
 from oracle.sender import Sender
 
-OF_A_PRIMARY = [b"cut", b"step 1", b"alone", b"protect", b"ack 2 0", b"text 0 0 9", b"arrive " + b"5a" * 14, b"arrive 5a"]
-OF_A_STANDBY = [b"piece 52", b"commit", b"restart", b"golive"]
+OF_A_PRIMARY = [b"cut", b"step 1", b"alone", b"protect", b"ack 2 0", b"text 0 0 9", b"rawtext 0 0 9", b"arrive " + b"5a" * 14, b"arrive 5a"]
+OF_A_STANDBY = [b"piece 52", raw_piece(b"R\n"), b"commit", b"restart", b"golive"]
 OF_NEITHER = [b"boot 2 1 1 idle", b"standby 2 1 1", b"standby 2 1 9"]
 FIRST_STEPS = {mirror.PAGES: 60, strider.PAGES: 250}  # by the guest's pages: those in which it gets ready, or goes all over its memory
 CLIENT_FRONT, CARD = bytes.fromhex("0200000001"), bytes.fromhex("020000000001")
+
+
+def spelled(rng: random.Random, data: bytes) -> bytes:
+    """The line of a piece, by digits or by its bytes."""
+    return raw_piece(data) if rng.random() < 0.5 else b"piece " + data.hex().encode()
 
 
 @dataclass
@@ -35,7 +41,7 @@ class Host:
     came: int = 0
 
     def printed(self):
-        return "".join(f"{answer}\n" for answer in self.answers if answer is not None).encode()
+        return printed(self.answers)
 
 
 class Script:
@@ -166,8 +172,9 @@ class Run:
         data, parts, length = b"", rng.choice([1, 1, 1, 2, 5]), len(pending.text)
         for part in range(parts):
             count = length // parts + 1 if rng.random() < 0.8 else rng.choice([length, 1000, 2**64 - 1])
-            answer = self.ask(self.primary, b"text %d %s %s" % (pending.number, self.number(len(data)), self.number(count)))
-            data += bytes.fromhex(answer[5:])
+            word = rng.choice([b"text", b"rawtext"])
+            answer = self.ask(self.primary, b"%s %d %s %s" % (word, pending.number, self.number(len(data)), self.number(count)))
+            data += text_bytes(answer)
         self.texts.append(Text(primary.generation, pending.number, data, len(data) == length))
 
     def look(self):
@@ -222,7 +229,7 @@ class Run:
             return
         part = left[:rng.choice([len(left), len(left), rng.randint(1, len(left)), min(len(left), 3)])]
         more = rng.choice(self.texts).data[:rng.randint(1, 600)] if len(part) == len(left) and text.is_all and rng.random() < 0.1 else b""
-        self.ask(host, b"piece " + (part + more).hex().encode())
+        self.ask(host, spelled(self.rng, part + more))
         host.came += len(part)
         if host.node.role.whole:
             if rng.random() < 0.1:

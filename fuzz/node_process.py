@@ -31,7 +31,7 @@ class Process:
     def differs(self, line, wanted):
         """What is wrong with the answer to a line, if anything. Where a line prints nothing, the next one's answer tells."""
         self.write(line)
-        for part in wanted.encode().split(b"\n") if wanted is not None else []:
+        for part in wanted.encode("latin-1").split(b"\n") if wanted is not None else []:
             came = self.line()
             if came != part:
                 return f"{line[:50]!r}: {(came or b'nothing')[:90]!r}, not {part[:90]!r}"

@@ -1,23 +1,24 @@
 """Lines for one node that no lawful pair would give it: any line in any state, and checkpoints that no machine made."""
-from fuzz.bag import CARD, Host
+from fuzz.bag import CARD, Host, spelled
 from fuzz.spellings import BAD_LINES, COMMENTS, GREATEST, NO_HEX, NO_NUMBERS, TOO_BIG
 from oracle import checkpoints
-from oracle.nodes import END, Node, Standby
+from oracle.nodes import END, Node, Standby, raw_piece
 
 BOOTS = [b"boot 2 1 1 beacon", b"boot 2 8 2 disk 3 ab", b"boot 1 1 16 idle", b"boot 2 2 1 words 0000006f"]
 SHAPES = [(2, 1), (2, 8), (1, 1), (2, 2)]
 GENERATIONS = [1, 1, 2, 3, END - 2, END - 1]
 NUMBERS = [0, 0, 1, 2, 3, 4, 5, END - 1, END, 2**64 - 1]
-WORDS = b"boot standby arrive step cut text ack alone protect piece commit restart golive show sector".split()
+WORDS = b"boot standby arrive step cut text rawtext ack alone protect piece rawpiece commit restart golive show sector".split()
 # Those that mostly do something at a standby, and elsewhere.
 OF_A_STANDBY = b"piece piece commit commit commit restart golive sector".split()
-OF_A_PRIMARY = b"arrive step cut cut text ack ack protect protect sector".split()
+OF_A_PRIMARY = b"arrive step cut cut text rawtext ack ack protect protect sector".split()
 BAD = (
     b"boot 2 1 1|boot 0 1 1 idle|boot 1 1 1 beacon|boot 2 1 17 idle|boot 16385 1 1 idle|boot 2 32769 1 idle|standby|standby 2 1|"
     b"standby 2 1 0|standby 2 1 4611686018427387904|standby 0 1 1|standby 2 0 1|standby 16385 1 1|standby 2 32769 1|standby 2 1 1 1|arrive|"
     b"arrive |step|step 0|step 1 1|cut 1|cut |text|text 1|text 1 0|text 1 0 0 0|text 1  0 0|text a 0 1|ack|ack 1|ack 1 1 1|ack 1 -1|"
-    b"alone 1|alones|protect 1|piece|piece |piece 0|piece AB|piece 00 00|commit 1|commits|restart 1|golive 1|go live|show 1|sector|"
-    b"sector 0 0|sector 99|Show| show|show |show\r|show\0|nodes").split(b"|")
+    b"rawtext|rawtext 1 0|rawtext 1 0 0 0|rawtext 1 0 x|rawpiece|rawpiece |rawpiece 0|rawpiece x|rawpiece -1|rawpiece 1 |rawpiece  1|"
+    b"rawpiece 18446744073709551616|rawpiece 00000000000000000000000001|alone 1|alones|protect 1|piece|piece |piece 0|piece AB|"
+    b"piece 00 00|commit 1|commits|restart 1|golive 1|go live|show 1|sector|sector 0 0|sector 99|Show| show|show |show\r|show\0|nodes").split(b"|")
 
 
 def texts_of(boot, rng):
@@ -53,7 +54,7 @@ class Stray:
         at = 0
         while at < len(text):
             part = text[at:at + self.rng.choice([len(text), len(text), 700, self.rng.randint(1, 600)])]
-            self.ask(b"piece " + part.hex().encode())
+            self.ask(spelled(self.rng, part))
             at += len(part)
 
 
@@ -68,12 +69,13 @@ def wild(rng):
         text = bytearray(texts[wanted] if rng.random() < 0.5 and wanted < len(texts) else rng.choice(texts))
         if rng.random() < 0.1:
             text[rng.randrange(len(text))] = rng.choice([0, 1, 2, 0x40, 0x80, 0xFF])
-        return b"piece " + bytes(text[:rng.choice([len(text)] * 4 + [rng.randint(1, len(text))])]).hex().encode()
+        return bytes(text[:rng.choice([len(text)] * 4 + [rng.randint(1, len(text))])])
 
     makes = {
         b"arrive": lambda: b"arrive " + (CARD + rng.randbytes(rng.choice([7, 8, 60, 1508, 1509]))).hex().encode(),
         b"step": lambda: b"step %d" % rng.choice([1, 5, 22, 30]), b"text": lambda: b"text %s %s %s" % (number(), number(), number()),
-        b"ack": lambda: b"ack %d %s" % (rng.choice([1, 2, 2, 2, 3, 3]), number()), b"piece": piece,
+        b"rawtext": lambda: b"rawtext %s %s %s" % (number(), number(), number()), b"rawpiece": lambda: raw_piece(piece()),
+        b"ack": lambda: b"ack %d %s" % (rng.choice([1, 2, 2, 2, 3, 3]), number()), b"piece": lambda: spelled(rng, piece()),
         b"sector": lambda: b"sector %s" % number(),
         b"boot": lambda: rng.choice(BOOTS), b"standby": lambda: b"standby 2 1 %d" % rng.choice(GENERATIONS)}
     stray.ask(rng.choice(begins)) if rng.random() < 0.9 else None

@@ -1,29 +1,33 @@
 """A worked run of two nodes that goes through all lines of docs/NODES.md, for fuzz/node_refusals and tests/gate/nodes."""
 from oracle import mirror, strider
-from oracle.nodes import Node
+from oracle.nodes import Node, raw_piece, text_bytes
 
 FRAME = "arrive 020000000101020000000001" + "88b5" * 30
 
 
 class Worked:
-    """The lines of each host, in the order in which they are asked, with what each is answered."""
+    """The lines of each host, in the order in which they are asked, with what each is answered. Each character is a byte."""
 
     def __init__(self):
         self.nodes, self.told = {}, []  # told: (host, line, answer)
 
     def ask(self, host, *lines):
         for line in lines:
-            answer = self.nodes.setdefault(host, Node()).answer(line.encode())
+            answer = self.nodes.setdefault(host, Node()).answer(line.encode("latin-1"))
             self.told.append((host, line, answer))
         return answer
 
     def carry(self, number, parts, primary="primary", standby="standby"):
-        """The text of a pending checkpoint goes from one host to the other, in so many parts."""
+        """The text of a pending checkpoint goes from one host to the other, in so many parts, those of an odd number by their bytes."""
         pending = self.nodes[primary].role.pending
         length = next(len(waiting.text) for waiting in pending if waiting.number == number)
         count = -(-length // parts)
         for at in range(0, length, count):
-            self.ask(standby, "piece " + self.ask(primary, f"text {number} {at} {count}")[5:])
+            if number % 2:
+                piece = raw_piece(text_bytes(self.ask(primary, f"rawtext {number} {at} {count}"))).decode("latin-1")
+            else:
+                piece = "piece " + self.ask(primary, f"text {number} {at} {count}")[5:]
+            self.ask(standby, piece)
 
     def lines(self, host):
         return [(line, answer) for asked, line, answer in self.told if asked == host]

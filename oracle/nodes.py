@@ -12,6 +12,8 @@ EXHAUSTED, OLD_VERSION, MALFORMED = "14 Exhausted", "15 OldVersion", "11 Malform
 END = 2**62  # of generations and of the numbers of checkpoints and frames
 PAGES_AT = 524  # where a text has the count of its page records
 LONGEST_LINE = 268_435_456
+LONGEST_HEAD = 32  # bytes of a line that bytes follow, without its newline
+RAW_PIECE = b"rawpiece "
 ALONE, FILLING, PAIRED, STANDBY, EMPTY = "alone", "filling", "paired", "standby", "empty"
 
 SELF_LOOP = 0x6F
@@ -193,12 +195,19 @@ class Primary:
         self.pending.append(Pending(c.number, checkpoints.text(c), c.frames))
         self.next = c.number + 1
 
-    def text(self, n, start, count):
+    def part(self, n: int, start: int, count: int) -> bytes:
         self.need_standby()
         found = [pending.text for pending in self.pending if pending.number == n]
         if not found:
             raise Refused(GAP)
-        return f"text {found[0][start:start + count].hex()}"
+        return found[0][start:start + count]
+
+    def text(self, n: int, start: int, count: int) -> str:
+        return f"text {self.part(n, start, count).hex()}"
+
+    def rawtext(self, n: int, start: int, count: int) -> str:
+        part = self.part(n, start, count)
+        return f"rawtext {len(part)}\n{part.decode('latin-1')}"
 
     def ack(self, generation, n):
         self.need_standby()
@@ -280,7 +289,7 @@ class Standby:
 # The lines of either kind of node, with how their fields are read.
 NONE = ()
 PRIMARY_LINES = {b"arrive": (hex_bytes,), b"step": (lambda text: in_range(number(text), 1, NUMBERS_END),), b"cut": NONE,
-                 b"text": (number,) * 3, b"ack": (number,) * 2, b"alone": NONE, b"protect": NONE}
+                 b"text": (number,) * 3, b"rawtext": (number,) * 3, b"ack": (number,) * 2, b"alone": NONE, b"protect": NONE}
 STANDBY_LINES = {b"piece": (hex_bytes,), b"commit": NONE, b"restart": NONE}
 
 
@@ -290,6 +299,45 @@ def read(kinds, fields):
     return [kind(text) for kind, text in zip(kinds, fields)]
 
 
+def following(line: bytes) -> int:
+    """How many bytes follow a line, behind its newline."""
+    if len(line) > LONGEST_HEAD or not line.startswith(RAW_PIECE):
+        return 0
+    try:
+        return number(line[len(RAW_PIECE):])
+    except Bad:
+        return 0
+
+
+def lines_of(data: bytes) -> list[bytes]:
+    """The lines of an input, each with the bytes that follow it. The last one is open, and empty where the one before it ends the input."""
+    found, at = [], 0
+    while (end := data.find(b"\n", at)) >= 0:
+        count = following(data[at:end])
+        stop = end + 1 + count if count else end
+        if stop > len(data):
+            break
+        found.append(data[at:stop])
+        at = stop if count else end + 1
+    return [*found, data[at:]]
+
+
+def raw_piece(data: bytes) -> bytes:
+    """The line of a piece, with its bytes."""
+    return RAW_PIECE + b"%d\n%b" % (len(data), data)
+
+
+def text_bytes(answer: str) -> bytes:
+    """What a text's answer spells."""
+    word, _, rest = answer.partition(" ")
+    return bytes.fromhex(rest) if word == "text" else rest.partition("\n")[2].encode("latin-1")
+
+
+def printed(answers: list[str | None]) -> bytes:
+    """What a process prints that answers so."""
+    return "".join(f"{answer}\n" for answer in answers if answer is not None).encode("latin-1")
+
+
 class Node:
     """A node, as its process plays it."""
 
@@ -297,17 +345,25 @@ class Node:
         self.role = None  # a Primary, a Standby, or nothing yet
 
     def answer(self, line):
-        """What the line prints, without its last newline; None: nothing."""
+        """What a line, with the bytes that follow it, prints, each character a byte, without its last newline; None: nothing."""
         if not line or (line.startswith(b"#") and len(line) <= LONGEST_LINE):
             return None
         try:
             if len(line) > LONGEST_LINE:
                 raise Bad
+            head, newline, data = line.partition(b"\n")
+            if newline or head.startswith(RAW_PIECE):
+                return self.rawpiece(head, data)
             return self.answered(*line.split(b" "))
         except Bad:
             return "bad"
         except Refused as refusal:
             return f"refused {refusal}"
+
+    def rawpiece(self, head: bytes, data: bytes) -> str:
+        if not data or following(head) != len(data):
+            raise Bad
+        return self.of_kind(Standby, ALREADY_PAIRED).piece(data)
 
     def answered(self, word, *fields):
         if word in PRIMARY_LINES:

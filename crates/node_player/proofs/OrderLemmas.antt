@@ -7,6 +7,7 @@ use Rattle.script_player.specs.laws.Fields.{text_after-some, operand_of-spelled,
 use Rattle.script_player.specs.laws.Options.{and_then_some, map_some, pair_parts}
 use Rattle.script_player.specs.laws.Forms.{Read, same, word, told, one, two, is_numbered, read-spelled}
 use Rattle.node_player.specs.Orders.{IsOrder, order_of, HasThreeNumbers, three_by, IsShaped, is_shaped}
+use Rattle.node_player.specs.declared.orders.Form.TheVariants as forms
 use Rattle.node_player.specs.declared.orders.Order.{Order}
 use Rattle.node_player.specs.declared.orders.Order.TheVariants.{Standby, Step, Cut, Text, Ack, Alone, Protect, Commit, Restart, GoLive}
 use Rattle.node_player.specs.declared.orders.Order.TheVariants.{Show, Sector}
@@ -26,7 +27,9 @@ order_of-spelled text (Standby pages sectors generation) ((first, second, third,
     ) refl
 order_of-spelled text (Step n) ((digits, shape, value), low) =
     let positive : nat_eq n 0 ≡ false = grind arith in ap order_of shape ∙ rw (value, positive) refl
-order_of-spelled text (Text number from count) (first, second, third, shape, l, m, n) =
+order_of-spelled text (Text forms.Hex number from count) (first, second, third, shape, l, m, n) =
+    ap order_of shape ∙ rw (operand_of-spelled first (second ++ 32 ∷ third) number l, operand_of-spelled second third from m, n) refl
+order_of-spelled text (Text forms.Raw number from count) (first, second, third, shape, l, m, n) =
     ap order_of shape ∙ rw (operand_of-spelled first (second ++ 32 ∷ third) number l, operand_of-spelled second third from m, n) refl
 order_of-spelled text (Ack generation number) (first, second, shape, m, n) =
     ap order_of shape ∙ rw (operand_of-spelled first second generation m, n) refl
@@ -86,12 +89,14 @@ module _ (text : List ℕ) (order : Order) where
       told IsOrder text order (λ n. cond (nat_eq n 0) None (Some (Step n))) (numbered_by (codes "step ") text)
       (λ n e. steps n (is_numbered (codes "step ") text n e) (nat_eq n 0) refl) (
       two IsOrder text order (codes "ack ") (λ f. Ack f.0 f.1) (λ f is. is) (
-      told IsOrder text order (λ f. Some (Text f.0 f.1 f.2)) (three_by (codes "text ") text)
-      (λ f e. same IsOrder text order (Text f.0 f.1 f.2) (has_three (codes "text ") text f e)) (
+      told IsOrder text order (λ f. Some (Text forms.Hex f.0 f.1 f.2)) (three_by (codes "text ") text)
+      (λ f e. same IsOrder text order (Text forms.Hex f.0 f.1 f.2) (has_three (codes "text ") text f e)) (
+      told IsOrder text order (λ f. Some (Text forms.Raw f.0 f.1 f.2)) (three_by (codes "rawtext ") text)
+      (λ f e. same IsOrder text order (Text forms.Raw f.0 f.1 f.2) (has_three (codes "rawtext ") text f e)) (
       one IsOrder text order (codes "sector ") (λ sector. Sector sector) (λ sector is. is) (
       told IsOrder text order (λ f. cond (is_shaped f.0 f.1 f.2) (Some (Standby f.0 f.1 f.2)) None) (three_by (codes "standby ") text)
       (λ f e. waits f (has_three (codes "standby ") text f e) (is_shaped f.0 f.1 f.2) refl) (
-      λ e. cc))))))))))))
+      λ e. cc)))))))))))))
 
 pub order-spelled : (text : List ℕ) (found : Option Order) → found ≡ order_of text → IfSome found (λ order. IsOrder text order)
 order-spelled = read-spelled IsOrder order_of order_of-read

@@ -80,6 +80,15 @@ module _ (done piece word front : List ℕ) (before : done ++ piece ≡ word ++ 
       append-nil (done ++ (piece ++ own)) ∙ sym (append_assoc done piece own) ∙ ap (λ t. t ++ own) before
       ∙ append_assoc word (encode_lower front) own ∙ ap (λ t. word ++ t) (sym (digits-append lower_digits front chunk))
 
+-- a line, a text behind it in three parts, and a newline
+pub long-text : (head bytes first others between last : List ℕ) → bytes ≡ first ++ others → others ≡ between ++ last
+    → head ++ (bytes ++ 10 ∷ []) ≡ (head ++ (first ++ [])) ++ (between ++ (last ++ 10 ∷ []))
+long-text head bytes first others between last split again =
+    ap (λ t. head ++ (t ++ 10 ∷ [])) (split ∙ ap (λ t. first ++ t) again)
+    ∙ ap (λ t. head ++ t) (append_assoc first (between ++ last) (10 ∷ []) ∙ ap (λ t. first ++ t) (append_assoc between last (10 ∷ [])))
+    ∙ sym (append_assoc head first (between ++ (last ++ 10 ∷ [])))
+    ∙ ap (λ t. (head ++ t) ++ (between ++ (last ++ 10 ∷ []))) (sym (append-nil first))
+
 -- frames up to one, that one, and those after it
 pub lines-from : (frames : List Frame) (i : ℕ) (frame : Frame) → i < length frames → get_or frames i frame ≡ frame
     → frame_lines frames ≡ frame_lines (take i frames) ++ (frame_line frame ++ frame_lines (drop (i + 1) frames))

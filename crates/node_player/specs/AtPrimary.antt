@@ -12,11 +12,12 @@ use Rattle.pair_nodes.specs.Sides.{Primary, after_arrival, let_out, after_ack, a
 use Rattle.pair_nodes.specs.PrimaryCalls.{mode_of, arrive_rows, IsSteps, after_release, cut_refusals, IsSealed, text_part, ack_rows}
 use Rattle.pair_nodes.specs.PrimaryCalls.{alone_rows, protect_rows, IsProtected}
 use Rattle.script_player.specs.Printed.{line, told_refusal}
+use Rattle.node_player.specs.declared.orders.Form.{Form}
 use Rattle.node_player.specs.declared.orders.Order.TheVariants.{Standby, Step, Cut, Text, Ack, Alone, Protect, Commit, Restart, GoLive}
 use Rattle.node_player.specs.declared.orders.Order.TheVariants.{Show, Sector}
 use Rattle.node_player.specs.Lines.{Line, boot, order, arrive, piece}
 use Rattle.node_player.specs.Outcomes.{Refuses, Does, DoesInMemory}
-use Rattle.node_player.specs.Printed.{steps_lines, acked_lines, alone_lines, text_line, cut_line, show_line, sector_named, sector_answer}
+use Rattle.node_player.specs.Printed.{steps_lines, acked_lines, alone_lines, spelled, cut_line, show_line, sector_named, sector_answer}
 
 -- of what its guest sent in steps: with a standby it is held, and otherwise let out at once
 abbrev pub let_out_now : Primary → List Frame
@@ -33,9 +34,9 @@ IsStepsAnswer no_memory q (Ok made) printed new =
 IsStepsAnswer no_memory q (Err why) printed new = Refuses no_memory why q printed new
 
 -- a part of a text, or why there is none
-abbrev pub text_answer : List ℕ → Result (List ℕ) Refusal → List ℕ
-text_answer no_memory (Ok bytes) = text_line bytes
-text_answer no_memory (Err why) = told_refusal no_memory why
+abbrev pub text_answer : List ℕ → Form → Result (List ℕ) Refusal → List ℕ
+text_answer no_memory form (Ok bytes) = spelled form bytes
+text_answer no_memory form (Err why) = told_refusal no_memory why
 
 abbrev pub mode_word : Mode → List ℕ
 mode_word modes.Paired = codes "paired"
@@ -57,8 +58,8 @@ AtPrimary no_memory p (order Cut) printed new =
     DoesInMemory no_memory (cut_refusals p.primary) p printed new
     ((bytes : ℕ) × IsSealed p.primary bytes new.primary × (new.flags ≡ unwritten p.flags)
     × (printed ≡ cut_line p.primary.generation p.primary.to_cut bytes))
-AtPrimary no_memory p (order (Text number from count)) printed new =
-    (printed ≡ text_answer no_memory (text_part p.primary number from count)) × (new ≡ p)
+AtPrimary no_memory p (order (Text form number from count)) printed new =
+    (printed ≡ text_answer no_memory form (text_part p.primary number from count)) × (new ≡ p)
 AtPrimary no_memory p (order (Ack generation number)) printed new =
     Does no_memory (ack_rows p.primary (packet generation number)) p printed new
     ((printed ≡ acked_lines generation number (let_out p.primary number)) × (new ≡ with_primary p (after_ack p.primary number)))

@@ -2,12 +2,13 @@
 use Rattle.std.specs.Prelude.{◌≡◌, ℕ, true, false, List, [], Option, None}
 use Rattle.script_player.specs.Meaning.{is_silent}
 use Rattle.script_player.specs.Session.{bad_answer, IsReply, IsServed}
+use Rattle.script_player.specs.SessionLines.{lines_with}
 use Rattle.script_player.specs.Streams.{Reading, Writing}
 use Rattle.pair_nodes.specs.Flagged.{Flagged}
 use Rattle.node_player.specs.AtNothing.{AtNothing}
 use Rattle.node_player.specs.AtPrimary.{AtPrimary}
 use Rattle.node_player.specs.AtStandby.{AtStandby, image_sector}
-use Rattle.node_player.specs.Lines.{Line, IsLine, WantsMemory}
+use Rattle.node_player.specs.Lines.{Line, IsLine, WantsMemory, following}
 use Rattle.node_player.specs.Nodes.{Node, nothing, primary, standby}
 use Rattle.node_player.specs.Printed.{sector_named}
 
@@ -39,4 +40,4 @@ pub data PlaysLine (no_memory : List ℕ) (node : Node) (text printed : List ℕ
 -- What a node has read and printed when it ends, and its exit status: each line was answered as it came. That memory was
 -- wanted prints `no_memory`, which is the writer's.
 abbrev pub IsNode : List ℕ → Reading → Reading → Writing → Writing → ℕ → Type 0
-IsNode no_memory input input' out out' status = IsServed (IsReply no_memory (PlaysLine no_memory)) nothing input input' out out' status
+IsNode no_memory input input' out out' status = IsServed (lines_with following) (IsReply no_memory (PlaysLine no_memory)) nothing input input' out out' status

@@ -7,6 +7,8 @@ use Rattle.script_player.specs.Command.{IsNumbered, HasNumbers}
 use Rattle.script_player.specs.Fields.{text_after, number_written, numbered_by, numbers_by, operand_of, with_second}
 use Rattle.script_player.specs.Limits.{most_pages, most_sectors}
 use Rattle.node_player.specs.Limits.{last_generation}
+use Rattle.node_player.specs.declared.orders.Form.{Form}
+use Rattle.node_player.specs.declared.orders.Form.TheVariants as forms
 use Rattle.node_player.specs.declared.orders.Order.{Order}
 use Rattle.node_player.specs.declared.orders.Order.TheVariants.{Standby, Step, Cut, Text, Ack, Alone, Protect, Commit, Restart, GoLive}
 use Rattle.node_player.specs.declared.orders.Order.TheVariants.{Show, Sector}
@@ -24,13 +26,18 @@ pub record IsShaped (pages sectors generation : ℕ) : Type 0 where
   pub sectors_fit : (1 ≤ sectors) × (sectors ≤ most_sectors)
   pub generation_fits : (1 ≤ generation) × (generation ≤ last_generation)
 
+-- how a line for bytes of a text begins
+abbrev pub text_word : Form → List ℕ
+text_word forms.Hex = codes "text "
+text_word forms.Raw = codes "rawtext "
+
 -- how each is spelled; a count of steps is at least 1
 abbrev pub IsOrder : List ℕ → Order → Type 0
 IsOrder text (Standby pages sectors generation) =
     HasThreeNumbers (codes "standby ") pages sectors generation text × IsShaped pages sectors generation
 IsOrder text (Step n) = IsNumbered (codes "step ") n text × (1 ≤ n)
 IsOrder text Cut = text ≡ codes "cut"
-IsOrder text (Text number from count) = HasThreeNumbers (codes "text ") number from count text
+IsOrder text (Text form number from count) = HasThreeNumbers (text_word form) number from count text
 IsOrder text (Ack generation number) = HasNumbers (codes "ack ") generation number text
 IsOrder text Alone = text ≡ codes "alone"
 IsOrder text Protect = text ≡ codes "protect"
@@ -68,7 +75,8 @@ order_of text =
     else if bytes_eq text (codes "show") then Some Show
     else option_map_or (λ n. if nat_eq n 0 then None else Some (Step n)) (numbered_by (codes "step ") text)
     (option_map_or (λ f. Some (Ack f.0 f.1)) (numbers_by (codes "ack ") text)
-    (option_map_or (λ f. Some (Text f.0 f.1 f.2)) (three_by (codes "text ") text)
+    (option_map_or (λ f. Some (Text forms.Hex f.0 f.1 f.2)) (three_by (codes "text ") text)
+    (option_map_or (λ f. Some (Text forms.Raw f.0 f.1 f.2)) (three_by (codes "rawtext ") text)
     (option_map_or (λ sector. Some (Sector sector)) (numbered_by (codes "sector ") text)
     (option_map_or (λ f. shaped_order f.0 f.1 f.2) (three_by (codes "standby ") text)
-    None))))
+    None)))))

@@ -5,6 +5,8 @@ use Rattle.hex.specs.Hex.{encode_lower}
 use Rattle.pair_history.specs.Entries.{Frame}
 use Rattle.guest_rules.specs.Guest.{sector_in}
 use Rattle.script_player.specs.{Printed.{line, sector_line}, Session.bad_answer}
+use Rattle.node_player.specs.declared.orders.Form.{Form}
+use Rattle.node_player.specs.declared.orders.Form.TheVariants as forms
 
 -- a frame that is let out
 abbrev pub frame_line : Frame → List ℕ
@@ -33,6 +35,14 @@ alone_lines generation frames =
 -- a part of a checkpoint's text
 abbrev pub text_line : List ℕ → List ℕ
 text_line bytes = line (codes "text" ∷ encode_lower bytes ∷ [])
+
+-- the same by the bytes themselves: how many, and behind that line so many, and a newline
+abbrev pub raw_text : List ℕ → List ℕ
+raw_text bytes = line (codes "rawtext" ∷ decimal (length bytes) ∷ []) ++ (bytes ++ codes "\n")
+
+abbrev pub spelled : Form → List ℕ → List ℕ
+spelled forms.Hex bytes = text_line bytes
+spelled forms.Raw bytes = raw_text bytes
 
 abbrev pub cut_line : ℕ → ℕ → ℕ → List ℕ
 cut_line generation number bytes = line (codes "cut" ∷ decimal generation ∷ decimal number ∷ decimal bytes ∷ [])

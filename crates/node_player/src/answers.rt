@@ -43,7 +43,12 @@ pub fn play<O: Sink>(alloc: Global, role: &mut Role, line: &[u8], out: &mut O) -
 /// # Errors
 ///
 /// Where a write fails.
-fn answer<O: Sink>(alloc: Global, role: &mut Role, line: &Line, out: &mut O) -> Result<(), Failed>
+fn answer<O: Sink>(
+    alloc: Global,
+    role: &mut Role,
+    line: &Line<'_>,
+    out: &mut O,
+) -> Result<(), Failed>
     requires { IsLimited line.now }
     ensures { IsAnswered (NodeAnswers O.no_memory (node_of role.old) (line_of line.now))
         (O.written out.old) (O.written out.new) result (node_of role.new) }
@@ -52,6 +57,7 @@ fn answer<O: Sink>(alloc: Global, role: &mut Role, line: &Line, out: &mut O) -> 
         Line::Boot(boot_line) => boot(alloc, role, boot_line, out),
         Line::Arrive(bytes) => arrive(role, bytes.as_slice(), out),
         Line::Piece(bytes) => take_piece(role, bytes.as_slice(), out),
+        Line::RawPiece(bytes) => take_piece(role, bytes, out),
         Line::Order(command) => obey(alloc, role, *command, out),
     }
 }
@@ -75,10 +81,11 @@ fn obey<O: Sink>(alloc: Global, role: &mut Role, command: Order, out: &mut O) ->
         Order::Step(count) => step(role, count, out),
         Order::Cut => cut(role, out),
         Order::Text {
+            form,
             number,
             from,
             count,
-        } => put_part(role, number, from, count, out),
+        } => put_part(role, form, number, from, count, out),
         Order::Ack { generation, number } => acknowledge(role, Packet { generation, number }, out),
         Order::Alone => go_alone(role, out),
         Order::Protect => protect(role, out),

@@ -1,10 +1,12 @@
 //! `remus node`: plays the lines of one host as they come, and answers each before it reads on.
 
 ghost use Rattle.std.specs.Prelude.{◌≡◌};
+ghost use Rattle.node_player.specs.Lines.{following};
 ghost use Rattle.node_player.specs.Meaning.{IsNode, PlaysLine};
 ghost use Rattle.node_player.specs.Nodes.{nothing};
 
 use crate::answers::play;
+use crate::lines::following;
 use crate::role::Role;
 use script_player::session::{LinePlayer, serve as serve_lines};
 use script_player::streams::{Failed, Sink, Source};
@@ -51,6 +53,12 @@ impl Host {
 
 impl LinePlayer for Host {
     ghost plays = { PlaysLine };
+
+    ghost follow = { following };
+
+    fn following(line: &[u8]) -> u64 {
+        following(line)
+    }
 
     fn play<O: Sink>(&mut self, line: &[u8], out: &mut O) -> Result<(), Failed> {
         play(self.alloc, &mut self.role, line, out)

@@ -28,8 +28,10 @@ pub enum Order {
     Step(u64),
     /// `cut`: ends the epoch.
     Cut,
-    /// `text N FROM COUNT`: bytes of a pending checkpoint's text.
+    /// `text N FROM COUNT` or `rawtext N FROM COUNT`: bytes of a pending checkpoint's text.
     Text {
+        /// How they are printed.
+        form: Form,
         /// The checkpoint's number.
         number: u64,
         /// The place of the first byte, from 0.
@@ -58,6 +60,15 @@ pub enum Order {
     Show,
     /// `sector S`: the bytes of sector `S` of the disk, from 0.
     Sector(u64),
+}
+
+/// How bytes of a text are printed.
+#[derive(Clone, Copy)]
+pub enum Form {
+    /// As hex digits.
+    Hex,
+    /// As they are, behind a line that says how many.
+    Raw,
 }
 
 /// The order that a line spells, if it has one of their forms: fields parted by one space, nothing before or after them. A line has
@@ -108,6 +119,15 @@ fn first_form(text: &[u8]) -> Option<Order>
     }
     if let Some((number, from, count)) = three(text, b"text ") {
         return Some(Order::Text {
+            form: Form::Hex,
+            number,
+            from,
+            count,
+        });
+    }
+    if let Some((number, from, count)) = three(text, b"rawtext ") {
+        return Some(Order::Text {
+            form: Form::Raw,
             number,
             from,
             count,

@@ -1,10 +1,11 @@
 //! What a node prints that a script doesn't: answers with frames or with a part of a checkpoint's text, and lines of its own.
 
-ghost use Rattle.std.specs.Prelude.{◌≡◌, ◌≤◌, ◌∷◌, [], length, codes, decimal};
-ghost use Rattle.node_player.specs.Printed.{cut_line, frame_line, frame_lines, malformed_line, show_line, steps_line, text_line};
+ghost use Rattle.std.specs.Prelude.{◌≡◌, ◌≤◌, ◌+◌, ◌∷◌, ◌++◌, [], length, codes, decimal};
+ghost use Rattle.node_player.specs.Printed.{cut_line, frame_line, frame_lines, malformed_line, raw_text, show_line, spelled, steps_line, text_line};
 ghost use Rattle.script_player.specs.Printed.{line, refusal_line, told_refusal};
 ghost use Rattle.script_player.specs.Streams.{IsPut};
 
+use crate::orders::Form;
 use arrayvec::ArrayVec;
 use pair_core::{Frame, Refusal};
 use script_player::digits::add_digits;
@@ -13,7 +14,7 @@ use script_player::streams::{Failed, Sink};
 use script_player::text::Field::{Number, Word};
 use script_player::text::{Text, add, write_line};
 
-/// Bytes of a checkpoint's text whose digits are written out at once, at most.
+/// Bytes of a checkpoint's text whose digits are written out at once, and bytes of it that are written together with a line, at most.
 const CHUNK_BYTES: usize = 16384;
 
 /// What is written out at once, at most: the digits of so many bytes, after the line's word or before its end.
@@ -102,7 +103,17 @@ fn put_frame<O: Sink>(out: &mut O, frame: &Frame) -> Result<(), Failed>
 /// # Errors
 ///
 /// Where a write fails.
-pub fn put_text<O: Sink>(out: &mut O, bytes: &[u8]) -> Result<(), Failed>
+pub fn put_text<O: Sink>(out: &mut O, form: Form, bytes: &[u8]) -> Result<(), Failed>
+    ensures { IsPut (O.written out.old) (O.written out.new) result (spelled form bytes.now) }
+{
+    match form {
+        Form::Hex => put_digits(out, bytes),
+        Form::Raw => put_bytes(out, bytes),
+    }
+}
+
+/// Prints a part of a text as digits.
+fn put_digits<O: Sink>(out: &mut O, bytes: &[u8]) -> Result<(), Failed>
     ensures { IsPut (O.written out.old) (O.written out.new) result (text_line bytes.now) }
 {
     let mut piece: ArrayVec<u8, PIECE_BYTES> = ArrayVec::new();
@@ -117,6 +128,35 @@ pub fn put_text<O: Sink>(out: &mut O, bytes: &[u8]) -> Result<(), Failed>
     }
     add_digits(&mut piece, rest);
     add(&mut piece, b"\n");
+    out.put(piece.as_slice())
+}
+
+/// Prints how many bytes a part of a text has, and the bytes. The first of them are written together with the line in front of them, so that
+/// whoever waits isn't woken for that alone, and the last ones with the newline behind them; those between are written from where they stand.
+fn put_bytes<O: Sink>(out: &mut O, bytes: &[u8]) -> Result<(), Failed>
+    ensures { IsPut (O.written out.old) (O.written out.new) result (raw_text bytes.now) }
+{
+    let mut head = Text::new();
+    write_number(&mut head, "rawtext", bytes.len() as u64);
+    if bytes.len() <= CHUNK_BYTES {
+        return put_joined(out, head.as_slice(), bytes, b"\n");
+    }
+    let (first, others) = bytes.split_at(CHUNK_BYTES);
+    let (between, last) = others.split_at(others.len().saturating_sub(CHUNK_BYTES));
+    put_joined(out, head.as_slice(), first, b"")?;
+    out.put(between)?;
+    put_joined(out, last, b"\n", b"")
+}
+
+/// Prints three texts at once.
+fn put_joined<O: Sink>(out: &mut O, first: &[u8], second: &[u8], third: &[u8]) -> Result<(), Failed>
+    requires { length first.now + length second.now + length third.now ≤ 32784 }
+    ensures { IsPut (O.written out.old) (O.written out.new) result (first.now ++ (second.now ++ third.now)) }
+{
+    let mut piece: ArrayVec<u8, PIECE_BYTES> = ArrayVec::new();
+    add(&mut piece, first);
+    add(&mut piece, second);
+    add(&mut piece, third);
     out.put(piece.as_slice())
 }
 

@@ -11,6 +11,7 @@ ghost use Rattle.script_player.specs.Printed.{line};
 ghost use Rattle.script_player.specs.Session.{IsAnswered};
 ghost use Rattle.script_player.specs.Streams.{IsPut};
 
+use crate::orders::Form;
 use crate::printing::{put_frames, put_text, refuse, tell, write_acked, write_cut, write_steps};
 use crate::role::Role;
 use pair_core::{Frame, Packet, Refusal};
@@ -119,34 +120,36 @@ fn cut_epoch<O: Sink>(primary: &mut PrimaryNode, out: &mut O) -> Result<(), Fail
 /// Where a write fails.
 pub fn put_part<O: Sink>(
     role: &mut Role,
+    form: Form,
     number: u64,
     from: u64,
     count: u64,
     out: &mut O,
 ) -> Result<(), Failed>
-    ensures { IsAnswered (NodeAnswers O.no_memory (node_of role.old) (order (Text number from count)))
+    ensures { IsAnswered (NodeAnswers O.no_memory (node_of role.old) (order (Text form number from count)))
         (O.written out.old) (O.written out.new) result (node_of role.new) }
 {
     match role {
         Role::Nothing => refuse(Refusal::NoImage, out),
         Role::Standby(_) => refuse(Refusal::NotPaired, out),
-        Role::Primary(primary) => put_part_of(primary, number, from, count, out),
+        Role::Primary(primary) => put_part_of(primary, form, number, from, count, out),
     }
 }
 
 /// Prints a part of a text that is pending at a primary.
 fn put_part_of<O: Sink>(
     primary: &mut PrimaryNode,
+    form: Form,
     number: u64,
     from: u64,
     count: u64,
     out: &mut O,
 ) -> Result<(), Failed>
-    ensures { IsAnswered (AtPrimary O.no_memory primary.old (order (Text number from count))) (O.written out.old) (O.written out.new)
+    ensures { IsAnswered (AtPrimary O.no_memory primary.old (order (Text form number from count))) (O.written out.old) (O.written out.new)
         result primary.new }
 {
     match primary.text(number, from, count) {
-        Ok(part) => put_text(out, part),
+        Ok(part) => put_text(out, form, part),
         Err(why) => refuse(why, out),
     }
 }

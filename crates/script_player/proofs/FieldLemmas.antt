@@ -11,7 +11,7 @@ use Rattle.std.proofs.lemmas.Bool.{and_parts, and_from, false_from_ne_true}
 use Rattle.std.specs.List.{position, position_or_len}
 use Rattle.std.specs.Str.{all_ascii_digits}
 use Rattle.std.specs.{Str.Parse.digits_value, Char.{is_ascii_digit, digit_value}}
-use Rattle.script_player.specs.Fields.{text_after, number_written, parted}
+use Rattle.script_player.specs.Fields.{text_after, number_written, parted_at}
 use Rattle.script_player.specs.laws.Fields.{text_after-append, text_after-some, writes, Writes, writes_to}
 
 none_after : (front text : List ℕ) → ((rest : List ℕ) → text ≢ front ++ rest) → (o : Option (List ℕ)) → text_after front text ≡ o → o ≡ None
@@ -75,34 +75,35 @@ number-digits text h =
     let on : writes text ≡ true = and_from _ _ (and_from _ _ some h.0) fits in
     rw on refl
 
--- ---- the text before and after the first space
+-- ---- the text before and after the first such byte
 
-abbrev is_space : ℕ → Bool
-is_space c = c == 32
+module _ (byte : ℕ) where
+  abbrev is_byte : ℕ → Bool
+  is_byte c = c == byte
 
-no-space : (text : List ℕ) → ((k : ℕ) → k < length text → is_space (get_or text k 0) ≡ false) → parted text ≡ None
-no-space [] h = refl
-no-space (c ∷ text) h =
-    let apart : (c == 32) ≡ false = h 0 (omega arith) in
-    rw (apart, no-space text (λ k l. h (suc k) (omega arith))) refl
+  none-at : (text : List ℕ) → ((k : ℕ) → k < length text → is_byte (get_or text k 0) ≡ false) → parted_at byte text ≡ None
+  none-at [] h = refl
+  none-at (c ∷ text) h =
+      let apart : (c == byte) ≡ false = h 0 (omega arith) in
+      rw (apart, none-at text (λ k l. h (suc k) (omega arith))) refl
 
--- no space, and no parts
-pub parted-none : (text : List ℕ) → position is_space text ≡ None → parted text ≡ None
-parted-none text h =
-    let past : length text ≤ position_or_len is_space text = grind (arith, common_steps) in
-    no-space text (λ k l. fails_before_first is_space text k 0 (omega arith))
+  -- no such byte, and no parts
+  pub parted-none : (text : List ℕ) → position is_byte text ≡ None → parted_at byte text ≡ None
+  parted-none text h =
+      let past : length text ≤ position_or_len is_byte text = grind (arith, common_steps) in
+      none-at text (λ k l. fails_before_first is_byte text k 0 (omega arith))
 
-space-at : (text : List ℕ) (i : ℕ) → i < length text → is_space (get_or text i 0) ≡ true
-    → ((k : ℕ) → k < i → is_space (get_or text k 0) ≡ false) → parted text ≡ Some (take i text, drop (suc i) text)
-space-at [] i within is before = absurd (omega arith)
-space-at (c ∷ text) zero within is before = let here : (c == 32) ≡ true = is in rw here refl
-space-at (c ∷ text) (suc i) within is before =
-    let apart : (c == 32) ≡ false = before 0 (omega arith) in
-    rw (apart, space-at text i (omega arith) is (λ k l. before (suc k) (omega arith))) refl
+  byte-at : (text : List ℕ) (i : ℕ) → i < length text → is_byte (get_or text i 0) ≡ true
+      → ((k : ℕ) → k < i → is_byte (get_or text k 0) ≡ false) → parted_at byte text ≡ Some (take i text, drop (suc i) text)
+  byte-at [] i within is before = absurd (omega arith)
+  byte-at (c ∷ text) zero within is before = let here : (c == byte) ≡ true = is in rw here refl
+  byte-at (c ∷ text) (suc i) within is before =
+      let apart : (c == byte) ≡ false = before 0 (omega arith) in
+      rw (apart, byte-at text i (omega arith) is (λ k l. before (suc k) (omega arith))) refl
 
--- the parts around the first space
-pub parted-some : (text : List ℕ) (i : ℕ) → position is_space text ≡ Some i
-    → parted text ≡ Some (take i text, take (length text - (i + 1)) (drop (i + 1) text))
-parted-some text i h =
-    let found = position-Some is_space text i 0 h in
-    space-at text i found.0 found.1 found.2 ∙ sym (rw (take_rest text (i + 1), add-one) refl)
+  -- the parts around the first such byte
+  pub parted-some : (text : List ℕ) (i : ℕ) → position is_byte text ≡ Some i
+      → parted_at byte text ≡ Some (take i text, take (length text - (i + 1)) (drop (i + 1) text))
+  parted-some text i h =
+      let found = position-Some is_byte text i 0 h in
+      byte-at text i found.0 found.1 found.2 ∙ sym (rw (take_rest text (i + 1), add-one) refl)

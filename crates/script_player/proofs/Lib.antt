@@ -12,6 +12,8 @@ pub mod LaneLemmas
 pub mod DiskLemmas
 mod MeaningLemmas
 mod LineLemmas
+mod OpenLines
+mod UnfollowedLines
 pub mod ScriptLemmas
 mod RunLemmas
 mod SessionLemmas

@@ -20,18 +20,26 @@ number_written text =
 abbrev pub numbered_by : List ℕ → List ℕ → Option ℕ
 numbered_by front text = option_and_then number_written (text_after front text)
 
+-- the front of a text up to the first such byte, and what stands after that
+abbrev pub parted_at : ℕ → List ℕ → Option (List ℕ × List ℕ)
+parted_at byte [] = None
+parted_at byte (c ∷ text) = if c == byte then Some ([], text) else option_map (λ parts. (c ∷ parts.0, parts.1)) (parted_at byte text)
+
 -- the front of a text up to its first space, and what stands after that
 abbrev pub parted : List ℕ → Option (List ℕ × List ℕ)
-parted [] = None
-parted (c ∷ text) = if c == 32 then Some ([], text) else option_map (λ parts. (c ∷ parts.0, parts.1)) (parted text)
+parted text = parted_at 32 text
 
 -- the number that parts gives, with the text after it
 abbrev pub number_in : List ℕ × List ℕ → Option (ℕ × List ℕ)
 number_in parts = option_map (λ n. (n, parts.1)) (number_written parts.0)
 
+-- a number at the front, and the text after the byte that ends it
+abbrev pub operand_at : ℕ → List ℕ → Option (ℕ × List ℕ)
+operand_at byte text = option_and_then number_in (parted_at byte text)
+
 -- a number at the front, and the text after the space that ends it
 abbrev pub operand_of : List ℕ → Option (ℕ × List ℕ)
-operand_of text = option_and_then number_in (parted text)
+operand_of text = operand_at 32 text
 
 -- a number, and the one that the text after it writes
 abbrev pub with_second : ℕ × List ℕ → Option (ℕ × ℕ)

@@ -12,6 +12,7 @@ pub mod Streams
 pub mod Lines
 pub mod Meaning
 pub mod Scripts
+pub mod SessionLines
 pub mod Session
 pub mod Live
 pub mod StreamLines

@@ -21,3 +21,7 @@ most_clients = 16
 -- a live session's rules: a line that is read has 256 MiB at most, without its newline
 abbrev pub most_line_bytes : ℕ
 most_line_bytes = 268435456
+
+-- a session's rules: a line that bytes follow has 32 at most in front of its newline
+abbrev pub most_head_bytes : ℕ
+most_head_bytes = 32

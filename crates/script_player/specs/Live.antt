@@ -1,7 +1,7 @@
 -- What a live session prints: each line is answered as it comes (docs/LIVE.md, "Its lines and answers").
 use Rattle.std.specs.Prelude.{◌≡◌, ℕ, ◌≤◌, List, [], ◌∷◌, ◌++◌, length}
 use Rattle.script_player.specs.Limits.{most_line_bytes}
-use Rattle.script_player.specs.Meaning.{Stage, unbooted, GoesOn, IsBad, IsRefused}
+use Rattle.script_player.specs.Meaning.{Stage, unbooted, lines_of, GoesOn, IsBad, IsRefused}
 use Rattle.script_player.specs.Session.{bad_answer, IsReply, IsServed}
 use Rattle.script_player.specs.Streams.{Reading, Writing}
 
@@ -20,7 +20,7 @@ LineAnswers no_memory = IsReply no_memory (PlaysLine no_memory)
 
 -- What a live session has read and printed when it ends, and its exit status.
 abbrev pub IsLive : List ℕ → Reading → Reading → Writing → Writing → ℕ → Type 0
-IsLive no_memory input input' out out' status = IsServed (LineAnswers no_memory) unbooted input input' out out' status
+IsLive no_memory input input' out out' status = IsServed lines_of (LineAnswers no_memory) unbooted input input' out out' status
 
 -- ---- beside a script
 

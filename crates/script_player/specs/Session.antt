@@ -4,7 +4,6 @@ use Rattle.std.specs.Io.KnownBytes.{Appends, Consumes, IsAtEnd}
 use Rattle.memory_wanted.specs.Wanted.{wanted}
 use Rattle.pair_record.specs.declared.event.Refusal.TheVariants.{NoMemory}
 use Rattle.script_player.specs.Limits.{most_line_bytes}
-use Rattle.script_player.specs.Meaning.{lines_of}
 use Rattle.script_player.specs.Printed.{refusal_line}
 use Rattle.script_player.specs.Streams.{Reading, Writing, Writes, WritesFront, IsPut}
 
@@ -37,18 +36,19 @@ Replies {S} Answers player (line ∷ lines) text last =
     (first : List ℕ) × (rest : List ℕ) × (next : S)
     × (text ≡ first ++ rest) × Answers player line first next × Replies Answers next lines rest last
 
--- What a session of a player has read and printed when it ends, and its exit status. What was read by then are the given bytes.
-pub data IsServed {S : Type 0} (Answers : S → List ℕ → List ℕ → S → Type 0) (player : S) (input input' : Reading) (out out' : Writing)
-    (status : ℕ) : Type 0 where
-  -- The input ended. Each of its lines was answered, the last one also where it has no newline.
+-- What a session of a player has read and printed when it ends, and its exit status. What was read by then are the given bytes, of which
+-- `lines_of` gives the lines.
+pub data IsServed {S : Type 0} (lines_of : List ℕ → List (List ℕ)) (Answers : S → List ℕ → List ℕ → S → Type 0) (player : S)
+    (input input' : Reading) (out out' : Writing) (status : ℕ) : Type 0 where
+  -- The input ended. Each of its lines was answered, the last one also where it is open.
   ended : (given text : List ℕ) (last : S) → Consumes input.left input'.left given → IsAtEnd input'.left → input'.failed ≡ false
       → Replies Answers player (lines_of given) text last → Writes out out' text → status ≡ 0
-      → IsServed Answers player input input' out out' status
-  -- A read failed. Each line that had come with its newline was answered; an open one, which has begun, was not.
+      → IsServed lines_of Answers player input input' out out' status
+  -- A read failed. Each line that had come whole was answered; an open one, which has begun, was not.
   unread : (given begun text : List ℕ) (lines : List (List ℕ)) (last : S) → Consumes input.left input'.left given
       → input'.failed ≡ true → lines_of given ≡ lines ++ begun ∷ [] → Replies Answers player lines text last
-      → Appends out.bytes out'.bytes text → status ≡ 1 → IsServed Answers player input input' out out' status
+      → Appends out.bytes out'.bytes text → status ≡ 1 → IsServed lines_of Answers player input input' out out' status
   -- A write failed. Standard output got a beginning of the answers to the first lines.
   unwritten : (given text : List ℕ) (lines rest : List (List ℕ)) (last : S) → Consumes input.left input'.left given
       → lines_of given ≡ lines ++ rest → Replies Answers player lines text last → WritesFront out out' text → status ≡ 1
-      → IsServed Answers player input input' out out' status
+      → IsServed lines_of Answers player input input' out out' status

@@ -4,7 +4,7 @@ ghost use Rattle.std.specs.Prelude.{◌≡◌, ◌==◌, ℕ, List, length, None
 ghost use Rattle.std.specs.Char.{is_ascii_uppercase};
 ghost use Rattle.std.specs.List.{list_any};
 ghost use Rattle.hex.specs.Hex.{encode_lower, IsBytes};
-ghost use Rattle.script_player.specs.Fields.{text_after, number_written, numbered_by, numbers_by, operand_of, parted};
+ghost use Rattle.script_player.specs.Fields.{text_after, number_written, numbered_by, numbers_by, operand_at, operand_of, parted, parted_at};
 
 use hex::FromHex;
 
@@ -45,7 +45,14 @@ pub fn numbered(text: &[u8], front: &[u8]) -> Option<u64>
 pub fn operand(text: &[u8]) -> Option<(u64, &[u8])>
     ensures { option_map (λ found. (found.0, found.1.now)) result ≡ operand_of text.now }
 {
-    let (digits, rest) = part(text)?;
+    operand_at(text, b' ')
+}
+
+/// A number at the front, and the text after the byte that ends it.
+pub fn operand_at(text: &[u8], end: u8) -> Option<(u64, &[u8])>
+    ensures { option_map (λ found. (found.0, found.1.now)) result ≡ operand_at end text.now }
+{
+    let (digits, rest) = part_at(text, end)?;
     Some((number(digits)?, rest))
 }
 
@@ -68,15 +75,22 @@ pub fn operand_after<'a>(text: &'a [u8], front: &[u8]) -> Option<(u64, &'a [u8])
 pub fn part(text: &[u8]) -> Option<(&[u8], &[u8])>
     ensures { option_map (λ parts. (parts.0.now, parts.1.now)) result ≡ parted text.now }
 {
-    let space = first_space(text)?;
-    Some((&text[..space], &text[space + 1..]))
+    part_at(text, b' ')
 }
 
-/// Where the first space stands.
-fn first_space(text: &[u8]) -> Option<usize>
-    ensures { result ≡ position (λ c. c == 32) text.now }
+/// The text up to the first such byte, and what stands after that.
+fn part_at(text: &[u8], byte: u8) -> Option<(&[u8], &[u8])>
+    ensures { option_map (λ parts. (parts.0.now, parts.1.now)) result ≡ parted_at byte text.now }
 {
-    text.iter().position(|c| *c == b' ')
+    let place = place_of(text, byte)?;
+    Some((&text[..place], &text[place + 1..]))
+}
+
+/// Where the first such byte stands.
+fn place_of(text: &[u8], byte: u8) -> Option<usize>
+    ensures { result ≡ position (λ c. c == byte) text.now }
+{
+    text.iter().position(|c| *c == byte)
 }
 
 /// The `N` bytes that the text writes, each as two hex digits in lower case.

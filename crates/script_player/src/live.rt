@@ -54,6 +54,12 @@ impl LivePair {
 impl LinePlayer for LivePair {
     ghost plays = { PlaysLine };
 
+    ghost follow = { λ line. 0 };
+
+    fn following(_: &[u8]) -> u64 {
+        0
+    }
+
     fn play<O: Sink>(&mut self, line: &[u8], out: &mut O) -> Result<(), Failed> {
         let turn = answer(self.alloc, &mut self.player, line);
         print(self.player.text.as_slice(), turn, out)

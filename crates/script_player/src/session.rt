@@ -1,12 +1,15 @@
 //! A session: lines are played as they come, and each is answered before more is read.
 
-ghost use Rattle.std.specs.Prelude.{◌≡◌, ◌++◌, ◌<◌, ℕ, List, [], length};
+ghost use Rattle.std.specs.Prelude.{◌≡◌, ◌++◌, ◌<◌, ◌≤◌, ℕ, true, List, [], length, drop, take};
 ghost use Rattle.script_player.specs.Session.{IsAnswered, IsReply, IsServed};
-ghost use Rattle.script_player.specs.internal.Serving.{IsAnswerTo, IsFed, IsKept, IsReplyTo, Holds, status_of};
+ghost use Rattle.script_player.specs.SessionLines.{due_behind, lines_with};
+ghost use Rattle.script_player.specs.internal.Serving.{IsAnswerTo, IsFed, IsKept, IsReplyTo, IsTaken, Holds, status_of};
 
-use crate::limits::MOST_LINE_BYTES;
-use crate::sim::first_line;
+use crate::limits::{MOST_HEAD_BYTES, MOST_LINE_BYTES};
+use crate::sim::first_newline;
 use crate::streams::{Failed, Sink, Source};
+use crate::text::add;
+use arrayvec::ArrayVec;
 use memory_wanted::{MemoryWanted, extend_from_slice};
 use std::alloc::Global;
 use std::mem;
@@ -16,6 +19,9 @@ const PIECE_BYTES: usize = 65_536;
 
 /// Bytes that a line's memory may have to be kept for the next line.
 const MOST_ROOM_KEPT: usize = 4_194_304;
+
+/// The first bytes of a line, which are always kept: one more than a line has that bytes follow.
+const FIRST_BYTES: usize = MOST_HEAD_BYTES + 1;
 
 /// What a bad line prints.
 pub const BAD: &[u8] = b"bad\n";
@@ -27,6 +33,14 @@ pub trait LinePlayer {
     /// How a line is answered that is kept: what is printed where memory was wanted, the player, the line, what is printed, and the player
     /// after it.
     ghost plays: { List ℕ → Self → List ℕ → List ℕ → Self → Type 0 };
+
+    /// How many bytes follow a line behind its newline, where it has at most [`MOST_HEAD_BYTES`]; none follow a longer one. They are a part
+    /// of the line that is played.
+    ghost follow: { List ℕ → ℕ };
+
+    /// How many bytes follow a line.
+    fn following(line: &[u8]) -> u64
+        ensures { result ≡ follow line.now };
 
     /// Plays a line, and prints the answer on `out`.
     ///
@@ -45,7 +59,7 @@ pub fn serve<S: Source, P: LinePlayer, O: Sink>(
     player: &mut P,
     out: &mut O,
 ) -> u8
-    ensures { IsServed (IsReply O.no_memory (P.plays O.no_memory)) player.old (S.reading input.old) (S.reading input.new) (O.written out.old) (O.written out.new) result }
+    ensures { IsServed (lines_with P.follow) (IsReply O.no_memory (P.plays O.no_memory)) player.old (S.reading input.old) (S.reading input.new) (O.written out.old) (O.written out.new) result }
 {
     match serve_all(alloc, input, player, out) {
         Ok(()) => 0,
@@ -64,7 +78,7 @@ fn serve_all<S: Source, P: LinePlayer, O: Sink>(
     player: &mut P,
     out: &mut O,
 ) -> Result<(), Failed>
-    ensures { IsServed (IsReply O.no_memory (P.plays O.no_memory)) player.old (S.reading input.old) (S.reading input.new) (O.written out.old) (O.written out.new)
+    ensures { IsServed (lines_with P.follow) (IsReply O.no_memory (P.plays O.no_memory)) player.old (S.reading input.old) (S.reading input.new) (O.written out.old) (O.written out.new)
         (status_of result) }
 {
     let mut line = OpenLine::new(alloc);
@@ -90,16 +104,15 @@ fn feed<P: LinePlayer, O: Sink>(
     bytes: &[u8],
     out: &mut O,
 ) -> Result<(), Failed>
-    ensures { IsFed (IsReply O.no_memory (P.plays O.no_memory)) player.old line.old bytes.now player.new line.new (O.written out.old) (O.written out.new) result }
+    ensures { IsFed P.follow (IsReply O.no_memory (P.plays O.no_memory)) player.old line.old bytes.now player.new line.new (O.written out.old) (O.written out.new) result }
 {
-    let mut left = Some(bytes);
-    while let Some(text) = left {
-        let (piece, rest) = first_line(text);
-        line.add(piece);
-        if rest.is_some() {
+    let mut left = bytes;
+    while !left.is_empty() {
+        let (count, has_ended) = line.take::<P>(left);
+        if has_ended {
             answer(alloc, player, line, out)?;
         }
-        left = rest;
+        left = &left[count..];
     }
     Ok(())
 }
@@ -116,11 +129,13 @@ fn answer<P: LinePlayer, O: Sink>(
     out: &mut O,
 ) -> Result<(), Failed>
     ensures begins { Holds line.new [] }
+    ensures none_due { line.new.due ≡ line.old.due }
     ensures answers { IsAnswerTo (IsReply O.no_memory (P.plays O.no_memory)) line.old player.old player.new (O.written out.old) (O.written out.new) result }
 {
     let fate = mem::replace(&mut line.fate, Fate::Kept);
     let replied = reply(player, line.bytes.as_slice(), fate, out);
     empty(alloc, &mut line.bytes);
+    line.first.clear();
     replied?;
     out.show()
 }
@@ -167,29 +182,105 @@ enum Fate {
     NoMemory(MemoryWanted),
 }
 
-/// A line of which the newline hasn't come.
+/// A line that hasn't come whole.
 #[derive(Drop)]
 struct OpenLine {
     /// Its bytes so far, where they are kept.
     bytes: Vec<u8>,
     fate: Fate,
+    /// The first of them.
+    first: ArrayVec<u8, FIRST_BYTES>,
+    /// How many bytes are to come behind its newline: none before that.
+    due: u64,
 }
 
 impl OpenLine {
     /// One without bytes.
     fn new(alloc: Global) -> OpenLine
-        ensures { Holds result [] }
+        ensures held { Holds result [] }
+        ensures none_due { result.due ≡ 0 }
     {
         OpenLine {
             bytes: Vec::new(alloc),
             fate: Fate::Kept,
+            first: ArrayVec::new(),
+            due: 0,
+        }
+    }
+
+    /// Goes on with the first of these bytes, up to the line's end where that is among them. Answers how many these are, and whether the
+    /// line ends with them.
+    fn take<P: LinePlayer>(&mut self, bytes: &[u8]) -> (usize, bool)
+        requires some { 0 < length bytes.now }
+        ensures count { (0 < result.0) × (result.0 ≤ length bytes.now) }
+        ensures taken { (text : List ℕ) → Holds self.old text
+            → IsTaken P.follow self.old text bytes.now (drop result.0 bytes.now) result.1 self.new }
+        ensures none_due { result.1 ≡ true → self.new.due ≡ 0 }
+    {
+        if self.due > 0 {
+            self.take_following(bytes)
+        } else {
+            self.take_line::<P>(bytes)
+        }
+    }
+
+    /// The same of a line whose newline hasn't come.
+    fn take_line<P: LinePlayer>(&mut self, bytes: &[u8]) -> (usize, bool)
+        requires some { 0 < length bytes.now }
+        requires open { self.old.due ≡ 0 }
+        ensures count { (0 < result.0) × (result.0 ≤ length bytes.now) }
+        ensures taken { (text : List ℕ) → Holds self.old text
+            → IsTaken P.follow self.old text bytes.now (drop result.0 bytes.now) result.1 self.new }
+        ensures none_due { result.1 ≡ true → self.new.due ≡ 0 }
+    {
+        let Some(end) = first_newline(bytes) else {
+            self.add(bytes);
+            return (bytes.len(), false);
+        };
+        self.add(&bytes[..end]);
+        self.due = self.following::<P>();
+        if self.due == 0 {
+            return (end + 1, true);
+        }
+        self.add(b"\n");
+        (end + 1, false)
+    }
+
+    /// The same of a line that bytes follow, whose newline has come.
+    fn take_following(&mut self, bytes: &[u8]) -> (usize, bool)
+        requires some { 0 < length bytes.now }
+        requires due { 0 < self.old.due }
+        ensures count { (0 < result.0) × (result.0 ≤ length bytes.now) }
+        ensures taken { (follow : List ℕ → ℕ) (text : List ℕ) → Holds self.old text
+            → IsTaken follow self.old text bytes.now (drop result.0 bytes.now) result.1 self.new }
+        ensures none_due { result.1 ≡ true → self.new.due ≡ 0 }
+    {
+        let Ok(due) = usize::try_from(self.due) else {
+            unreachable!()
+        };
+        let count = due.min(bytes.len());
+        self.add(&bytes[..count]);
+        self.due = (due - count) as u64;
+        (count, count == due)
+    }
+
+    /// How many bytes follow the line.
+    fn following<P: LinePlayer>(&self) -> u64
+        ensures { (text : List ℕ) → Holds self.now text → result ≡ due_behind P.follow text }
+    {
+        if self.first.len() > MOST_HEAD_BYTES {
+            0
+        } else {
+            P::following(self.first.as_slice())
         }
     }
 
     /// Adds bytes to the line.
     fn add(&mut self, bytes: &[u8])
-        ensures { (text : List ℕ) → Holds self.old text → Holds self.new (text ++ bytes.now) }
+        ensures held { (text : List ℕ) → Holds self.old text → Holds self.new (text ++ bytes.now) }
+        ensures due { self.new.due ≡ self.old.due }
     {
+        keep_first(&mut self.first, bytes);
         if bytes.is_empty() {
             return;
         }
@@ -197,6 +288,14 @@ impl OpenLine {
             self.fate = keep(&mut self.bytes, bytes);
         }
     }
+}
+
+/// Adds bytes to the first ones of a line, as many as these may be.
+fn keep_first(first: &mut ArrayVec<u8, FIRST_BYTES>, bytes: &[u8])
+    ensures { (text : List ℕ) → first.old.items ≡ take 33 text → first.new.items ≡ take 33 (text ++ bytes.now) }
+{
+    let count = bytes.len().min(FIRST_BYTES - first.len());
+    add(first, &bytes[..count]);
 }
 
 /// Adds bytes to those of a line. Says whether they are all kept.

@@ -173,7 +173,7 @@ pub fn first_line(text: &[u8]) -> (&[u8], Option<&[u8]>)
 }
 
 /// Where the first newline stands.
-fn first_newline(text: &[u8]) -> Option<usize>
+pub fn first_newline(text: &[u8]) -> Option<usize>
     ensures { IsFirstByte (is_byte 10) text.now result }
 {
     memchr(b'\n', text)

@@ -13,6 +13,8 @@ const MOST_PENDING: usize = 4;
 const STEP_FRAMES: usize = 192;
 const END: u64 = 1 << 62;
 const STEPS: usize = 5;
+/// Bytes of a line that bytes follow, without its newline, at most.
+const LONGEST_HEAD: usize = 32;
 /// Bytes of a count of records, and of an index.
 const COUNT: usize = 4;
 
@@ -71,18 +73,30 @@ pub enum Node {
 }
 
 impl Node {
-    /// What a line prints, without its last newline; `None`: nothing.
-    pub fn answer(&mut self, line: &[u8]) -> Option<String> {
+    /// What a line, with the bytes that follow it, prints, without its last newline; `None`: nothing.
+    pub fn answer(&mut self, line: &[u8]) -> Option<Vec<u8>> {
         if line.is_empty() || line[0] == b'#' {
             return None;
         }
-        let answer = std::str::from_utf8(line)
-            .ok()
-            .and_then(|line| self.obey(line));
-        Some(match answer {
-            None => "bad".into(),
-            Some(answer) => answer.unwrap_or_else(str::to_string),
+        Some(match self.answer_in_bytes(line) {
+            None => b"bad".to_vec(),
+            Some(answer) => answer.unwrap_or_else(|refusal| refusal.as_bytes().to_vec()),
         })
+    }
+
+    fn answer_in_bytes(&mut self, line: &[u8]) -> Option<Result<Vec<u8>, &'static str>> {
+        let told = |answer: Result<String, _>| answer.map(String::into_bytes);
+        if let Some(piece) = followed(line) {
+            return self
+                .standby_does(|standby| standby.take(piece))
+                .map(told);
+        }
+        let line = std::str::from_utf8(line).ok()?;
+        if let Some(rest) = line.strip_prefix("rawtext ") {
+            let [number, from, count] = numbers(rest)?;
+            return self.primary_does(|primary| primary.raw_text(number, from, count));
+        }
+        self.obey(line).map(told)
     }
 
     fn obey(&mut self, line: &str) -> Answer {
@@ -161,10 +175,10 @@ impl Node {
     }
 
     /// A line of a primary.
-    fn primary_does(
+    fn primary_does<T>(
         &mut self,
-        act: impl FnOnce(&mut Primary) -> Result<String, &'static str>,
-    ) -> Answer {
+        act: impl FnOnce(&mut Primary) -> Result<T, &'static str>,
+    ) -> Option<Result<T, &'static str>> {
         Some(match self {
             Node::Nothing => Err(NO_IMAGE),
             Node::Standby(_) => Err(NOT_PAIRED),
@@ -341,6 +355,20 @@ impl Primary {
     }
 
     fn text(&self, number: u64, from: u64, count: u64) -> Result<String, &'static str> {
+        let part = self.part(number, from, count)?;
+        let mut answer = String::with_capacity(5 + 2 * part.len());
+        answer.push_str("text ");
+        put_hex(&mut answer, part);
+        Ok(answer)
+    }
+
+    fn raw_text(&self, number: u64, from: u64, count: u64) -> Result<Vec<u8>, &'static str> {
+        let part = self.part(number, from, count)?;
+        Ok([format!("rawtext {}\n", part.len()).as_bytes(), part].concat())
+    }
+
+    /// Bytes of a pending checkpoint's text.
+    fn part(&self, number: u64, from: u64, count: u64) -> Result<&[u8], &'static str> {
         self.need_standby()?;
         let mut found = self
             .pending
@@ -349,10 +377,7 @@ impl Primary {
         let text = &found.next().ok_or(GAP)?.text;
         let start = text.len().min(from as usize);
         let end = text.len().min(start.saturating_add(count as usize));
-        let mut answer = String::with_capacity(5 + 2 * (end - start));
-        answer.push_str("text ");
-        put_hex(&mut answer, &text[start..end]);
-        Ok(answer)
+        Ok(&text[start..end])
     }
 
     fn acknowledge(&mut self, generation: u64, number: u64) -> Result<String, &'static str> {
@@ -476,6 +501,25 @@ impl Standby {
         self.reader = Reader::new(self.shape);
         Ok("restarted".into())
     }
+}
+
+/// How many bytes follow a line, behind its newline.
+pub fn following(line: &[u8]) -> u64 {
+    if line.len() > LONGEST_HEAD {
+        return 0;
+    }
+    let count = line
+        .strip_prefix(b"rawpiece ")
+        .and_then(|digits| std::str::from_utf8(digits).ok())
+        .and_then(number);
+    count.unwrap_or(0)
+}
+
+/// The bytes that follow a line, where there are as many as it says, and at least one.
+fn followed(line: &[u8]) -> Option<&[u8]> {
+    let end = line.iter().position(|byte| *byte == b'\n')?;
+    let bytes = &line[end + 1..];
+    (!bytes.is_empty() && following(&line[..end]) == bytes.len() as u64).then_some(bytes)
 }
 
 fn with_frames(mut answer: String, frames: &[Vec<u8>]) -> String {

@@ -1,6 +1,6 @@
 use Rattle.script_player.specs.Session.{IsReply}
-use Rattle.std.proofs.{Common.{[], ◌++◌, take, arith, refl}, KnownBytes.{Appends-nil, Appends-trans, Consumes-nil, Consumes-trans}}
-use Rattle.script_player.specs.{Session.IsServed, internal.Serving.status_of}
+use Rattle.std.proofs.{Common.{[], ap, sym, ◌++◌, take, arith, refl}, KnownBytes.{Appends-nil, Appends-trans, Consumes-nil, Consumes-trans}}
+use Rattle.script_player.specs.{Session.IsServed, SessionLines.{lines_behind, lines_with}, internal.Serving.status_of}
 use Rattle.script_player.proofs.SessionLemmas.{read-failed, write-failed, input-ended}
 use Rattle.script_player.specs.laws.Options.{failed}
 use Rattle.script_player.proofs.session.serve_all.Goals as goal
@@ -14,10 +14,9 @@ loop-line-init g c = record {
   answered = record {
     lines = [];
     begun = [];
-    split = refl;
-    whole = refl;
+    split = λ more. ap (λ d. lines_behind g.P.LinePlayer.follow [] d more) (sym c.new-line.ensures.none_due);
     replies = (refl, refl);
-    held = c.new-line.ensures;
+    held = c.new-line.ensures.held;
   };
 }
 
@@ -26,7 +25,7 @@ returns-in_err-count g c =
     let got = c.in_err-count.ensures.bytes in
     let after = g.S.Source.reading c.read.new.self in
     let out = g.O.Sink.written c.args.out.now in
-    failed _ (λ r. IsServed (IsReply g.O.Sink.no_memory (g.P.LinePlayer.plays g.O.Sink.no_memory)) c.args.player.now (g.S.Source.reading c.args.input.now) after out
+    failed _ (λ r. IsServed (lines_with g.P.LinePlayer.follow) (IsReply g.O.Sink.no_memory (g.P.LinePlayer.plays g.O.Sink.no_memory)) c.args.player.now (g.S.Source.reading c.args.input.now) after out
     (g.O.Sink.written c.loop-line.out) (status_of r))
     c.from_residual.result c.from_residual.ensures.1 (λ e is. read-failed c.loop-line.invariant after got.0 got.1)
 
@@ -37,7 +36,7 @@ returns-in_err-feed g c =
     let after = g.S.Source.reading c.read.new.self in
     let out = g.O.Sink.written c.args.out.now in
     let out' = g.O.Sink.written c.feed.new.out in
-    failed _ (λ r. IsServed (IsReply g.O.Sink.no_memory (g.P.LinePlayer.plays g.O.Sink.no_memory)) c.args.player.now (g.S.Source.reading c.args.input.now) after out out' (status_of r))
+    failed _ (λ r. IsServed (lines_with g.P.LinePlayer.follow) (IsReply g.O.Sink.no_memory (g.P.LinePlayer.plays g.O.Sink.no_memory)) c.args.player.now (g.S.Source.reading c.args.input.now) after out out' (status_of r))
     c.from_residual-in_err-feed.result c.from_residual-in_err-feed.ensures.1
     (λ e is. write-failed before after (take c.in_ok-count.count c.read.new.buffer) out' got.0
     (c.in_err-feed.ensures c.args.player.now before.given before.text before.answered))

@@ -3,7 +3,7 @@ use Rattle.std.proofs.Common.{◌≡◌, ◌≤◌, ◌++◌, ℕ, List, codes, 
 use Rattle.arrayvec.specs.ArrayVec.{array_vec_len}
 use Rattle.hex.specs.Hex.{encode_lower}
 use Rattle.node_player.specs.internal.Puts.{HasPut}
-use Rattle.node_player.proofs.printing.put_text.Given as goal
+use Rattle.node_player.proofs.printing.put_digits.Given as goal
 
 abbrev pub invariant-loop-rest : goal.invariant-loop-rest
 invariant-loop-rest g l = (array_vec_len l.piece ≤ 5)

@@ -4,7 +4,7 @@ use Rattle.hex.specs.Hex.{encode_lower}
 use Rattle.script_player.specs.Streams.{IsPut}
 use Rattle.script_player.specs.laws.Options.{failed}
 use Rattle.node_player.{specs.Printed.text_line, proofs.PutLemmas.{put-none, put-more, put-last, put-failed, line-goes-on, piece-written}}
-use Rattle.node_player.proofs.printing.put_text.Goals as goal
+use Rattle.node_player.proofs.printing.put_digits.Goals as goal
 
 pub loop-rest-init : goal.loop-rest-init
 unfolding Rattle.hex.specs.Hex.encode_with
