@@ -1,5 +1,4 @@
 """A live host: it runs the guest by the clock, ends epochs, sends checkpoints, and lets frames out. Times are monotonic, in seconds."""
-from binascii import unhexlify
 from collections import OrderedDict
 
 from host import messages, turning
@@ -9,7 +8,7 @@ from host.log.kept import HEARD_EVERY
 from host.log.own import OwnLog
 from host.looks import Looks
 from host.modes import ALONE, FILLING, MOST_PENDING, PAIRED
-from host.node import LOOK, MADE, OUTBOX, PIECE, STEPS, arrive, looks, text_from
+from host.node import LOOK, MADE, OUTBOX, PIECE, STEPS, arrive, looks, part, text_from
 from host.pacing import TRY_EVERY, Pacer
 from host.text import MOST_PAGE, pages_and_frames
 from host.troubles import Trouble
@@ -269,7 +268,7 @@ class Live:
         if self.own is not None:
             self.own_told(now)
         self.longest, self.ran_at, self.has_arrived = max(self.longest, now - self.ran_at), now, False
-        step, cut, text = self.tell(b"step %d" % steps, b"cut", b"text %d 0 %d" % (number, PIECE))
+        step, cut, text = self.tell(b"step %d" % steps, b"cut", part(number, 0, PIECE))
         self.stepped(step, now)
         self.was_cut(now, cut, text)
         if self.sending <= self.cut:
@@ -345,7 +344,7 @@ class Live:
             is_next = self.fetching == number
         else:
             is_next = self.is_linked and self.sending == number and self.link.has_room()
-        return [b"cut"] + [b"text %d 0 %d" % (number, PIECE)] * is_next
+        return [b"cut"] + [part(number, 0, PIECE)] * is_next
 
     def was_cut(self, now, cut, text=None):
         if cut.is_refused:
@@ -365,7 +364,7 @@ class Live:
         # The next one ends in its turn, unless this machine is much too late.
         self.epoch_begun = max(self.epoch_begun + min(length, self.span), now - self.epoch)
         if text is not None and not text.is_refused:
-            self.came(unhexlify(text.words[1]), now)
+            self.came(text.data, now)
         if self.turn_wanted and turning.begin(self, now):
             self.turn_wanted = False
 

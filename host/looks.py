@@ -1,8 +1,7 @@
 """Looks at a guest that is alone, of which no checkpoint is cut: whether it can do nothing more (dead.py)."""
-from binascii import unhexlify
 
 from host.dead import HEAD, LEAST, has_trapped, told
-from host.node import Refused
+from host.node import Refused, part
 
 FIRST, EVERY = 1.0, 5.0  # seconds, until the first look and from one to the next, of a guest that sends nothing meanwhile
 AGAIN = 0.1  # seconds, where one look isn't enough to tell
@@ -47,13 +46,13 @@ class Looks:
         except Refused:
             return True  # it is tried again later
         for number in range(1, CUTS + 1):
-            step, cut, text = live.tell(b"step 1", b"cut", b"text %d 0 %d" % (number, HEAD))
+            step, cut, text = live.tell(b"step 1", b"cut", part(number, 0, HEAD))
             live.stepped(step, now)
             if cut.is_refused or text.is_refused:
                 break
             # More bytes than the head's would have it look at all of the guest's memory. But how long a text without records is is known.
             has_records = cut.number(3) > LEAST
-            head = unhexlify(text.words[1]) + bytes([has_records]) * (LEAST - HEAD)
+            head = text.data + bytes([has_records]) * (LEAST - HEAD)
             if live.watch.see(head, number):
                 live.log.error(told(live.watch.found))
             is_told = live.watch.found is not None or not has_trapped(head)

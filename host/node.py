@@ -4,17 +4,19 @@ import os
 import signal
 import subprocess
 from binascii import hexlify, unhexlify
+from collections.abc import Sequence
 
 from host import stack
 
 PIPE_BYTES = 1 << 20
-BUFFER = 1 << 18  # bytes, above those of a line with a piece of a text
+BUFFER = 1 << 18  # bytes, above those of a piece of a text
 SET_PIPE_SIZE = 1031  # F_SETPIPE_SZ
 # How the C library serves the node, unless the environment has it otherwise. What a large epoch takes is given back with it, so the next
 # one would get it from the system page by page, which takes longer than the cut itself: up to 256 MiB stay.
 MEMORY = {"MALLOC_MMAP_MAX_": "0", "MALLOC_TRIM_THRESHOLD_": str(256 << 20)}
 ENDS = {signal.SIGSEGV: ", as one that is refused a page of its stack", signal.SIGKILL: ", as one that somebody kills, or the kernel where "
         "memory is short"}
+RAW_TEXT = b"rawtext"
 WITH_FRAMES, REFUSALS = {b"steps", b"acked", b"alone"}, {b"refused", b"bad"}
 STEPS, WRITTEN = 7, 9  # the places of these numbers in the answer to `show`
 MADE, OUTBOX = 1, 3  # and in the answer to `step`: the guest's step count, and how many frames wait in its outbox
@@ -41,11 +43,11 @@ class Refused(Exception):
 
 
 class Answer:
-    """An answer's words, and the frames that follow it. `is_refused` where it is a refusal, or `bad`."""
-    __slots__ = ("words", "frames", "is_refused")
+    """An answer's words, and the frames, or the bytes of a text, that follow it. `is_refused` where it is a refusal, or `bad`."""
+    __slots__ = ("words", "frames", "data", "is_refused")
 
-    def __init__(self, words, frames=()):
-        self.words, self.frames, self.is_refused = words, frames, words[0] in REFUSALS
+    def __init__(self, words: list[bytes], frames: Sequence[bytes] = (), data: bytes = b"") -> None:
+        self.words, self.frames, self.data, self.is_refused = words, frames, data, words[0] in REFUSALS
 
     def number(self, place):
         return int(self.words[place])
@@ -90,7 +92,7 @@ class Node:
             raise NodeEnded(f"the node can't have {stack.MORE[-1]} bytes of stack more: the limits here are too narrow (ulimit -s and -v, or "
                             "vm.overcommit_memory)")
 
-    def tell(self, *lines):
+    def tell(self, *lines: bytes) -> list[Answer]:
         """The answers to these lines. Together they, or their answers, fit into a pipe, but for the last one's."""
         self.put(*lines)
         return [self.answer() for _ in lines]
@@ -98,7 +100,9 @@ class Node:
     def put(self, *lines: bytes) -> None:
         """Tells it these lines, whose answers are to be read in their turn. Raises NodeEnded."""
         try:
-            self.input.write(b"\n".join((*lines, b"")))
+            for line in lines:
+                self.input.write(line)
+                self.input.write(b"\n")
             self.input.flush()
         except (BrokenPipeError, ValueError):
             raise NodeEnded(self.end()) from None
@@ -107,11 +111,20 @@ class Node:
         """The answer to one line, as text is given. Raises Refused."""
         return self.tell(line.encode())[0].checked()
 
-    def answer(self):
+    def answer(self) -> Answer:
         words = self.line().split() or [b""]
+        if words[0] == RAW_TEXT:
+            return Answer(words, data=self.raw(int(words[1])))
         if words[0] not in WITH_FRAMES or words[-1] == b"0":
             return Answer(words)
         return Answer(words, [unhexlify(self.line()[6:-1]) for _ in range(int(words[-1]))])
+
+    def raw(self, count: int) -> bytes:
+        """So many bytes, behind which stands a newline."""
+        data = self.output.read(count)
+        if self.output.read(1) != b"\n":
+            raise NodeEnded(self.end())
+        return data
 
     def line(self):
         line = self.output.readline()
@@ -163,8 +176,13 @@ def arrive(frame):
     return b"arrive " + hexlify(frame)
 
 
-def piece(data):
-    return b"piece " + hexlify(data)
+def piece(data: bytes) -> bytes:
+    return b"rawpiece %d\n%b" % (len(data), data)
+
+
+def part(number: int, begin: int, count: int) -> bytes:
+    """The line that asks for so many bytes of a pending checkpoint's text, which are the answer's data."""
+    return b"rawtext %d %d %d" % (number, begin, count)
 
 
 def looks(pages):
@@ -172,8 +190,8 @@ def looks(pages):
     return -(-pages // LOOKED_AT)
 
 
-def text_from(node, number, begin):
+def text_from(node: Node, number: int, begin: int) -> tuple[bytes, bool]:
     """Of a pending checkpoint's text the bytes from this place on, a piece of them or as many as there are; and whether they are the last.
     One byte more is asked for, which tells: how long a full checkpoint's text is isn't known before."""
-    data = unhexlify(node.ask(f"text {number} {begin} {PIECE + 1}").words[1])
+    data = node.tell(part(number, begin, PIECE + 1))[0].checked().data
     return data[:PIECE], len(data) <= PIECE
