@@ -1,6 +1,6 @@
-"""The database guest at two hosts (host/), beside SQLite alone on this machine and PostgreSQL 15 with a standby that has applied each commit
-before it is told: for `bench/sql beside`. All are asked by the same client in one run, one after another in each measurement, so that what
-else this machine does is the same for them."""
+"""The database guest at two hosts (host/), beside SQLite alone on this machine and PostgreSQL 15 with a standby that has applied each
+commit before it is told: for `bench/sql beside`. All are asked by the same client in one run, one after another in each measurement, so
+that what else this machine does is the same for them."""
 from __future__ import annotations
 
 import contextlib
@@ -152,8 +152,8 @@ class Replicated(OverNetwork):
         self.port, self.live = self.ports[0], 0
 
     def as_postgres(self, *words: object) -> None:
-        subprocess.run(["runuser", "-u", "postgres", "--", *map(str, words)], check=True, stdout=subprocess.DEVNULL, stderr=subprocess.DEVNULL,
-                       cwd="/")
+        subprocess.run(["runuser", "-u", "postgres", "--", *map(str, words)], check=True, cwd="/", stdout=subprocess.DEVNULL,
+                       stderr=subprocess.DEVNULL)
 
     def control(self, place: int, *words: object) -> None:
         self.as_postgres(BINARIES / "pg_ctl", "-D", self.folder / str(place), "-l", self.folder / f"{place}.log", "-w", *words)
@@ -204,7 +204,8 @@ Place = Alone | Guest | Replicated
 
 
 def transfer(name: str, source: int, target: int) -> str:
-    return (f"BEGIN; UPDATE account SET balance = balance - 1 WHERE id = {source}; UPDATE account SET balance = balance + 1 WHERE id = {target}; "
+    return (f"BEGIN; UPDATE account SET balance = balance - 1 WHERE id = {source}; "
+            f"UPDATE account SET balance = balance + 1 WHERE id = {target}; "
             f"INSERT INTO transfer VALUES('{name}', {source}, {target}, 1); COMMIT")
 
 

@@ -90,8 +90,9 @@ cp -r "$here/../server" "$here/../lib" "$room"
 cd "$room"
 sources="secret.c server/server.c server/disk.c server/network.c server/reopen.c
     sql/sqlite_begin.s one/sqlite3.c sql/sqlite_end.s sql/handler.s"
-for name in guest log vfs locks database text settings stacks turns patterns functions digest password scram statement lexer dialect session work query \
-    rows messages parameters types trigger extended copy_words copy_rows copy postgres request table page door cksum pages dump whole http connections \
+for name in guest log vfs locks database text settings stacks turns patterns functions digest password scram statement lexer dialect \
+    session work query rows messages parameters types trigger extended copy_words copy_rows copy postgres request table page door cksum \
+    pages dump whole http connections \
     ticks tokens escapes casts translate arrays sets expressions declarations catalog catalog_queries postgres_sql; do
     sources="$sources sql/$name.c"
 done

@@ -1,4 +1,4 @@
-/* COPY of PostgreSQL's protocol: the rows of a table or a query as bytes to the client, or as many as the client has into a table. It stands
+/* COPY of PostgreSQL's protocol: the rows of a table or a query as bytes to the client, or those that he has into a table. It stands
    alone in its query. What comes in is one transaction, or part of the client's own: all rows are kept or none. */
 #ifndef COPY_H
 #define COPY_H

@@ -30,8 +30,8 @@ struct row_finder {
     int is_in_quotes, is_after_escape;
 };
 
-/* How many bytes the first row of so many bytes has, with its end; 0 where it hasn't come whole. Asked again with more bytes it goes on where
-   it stood. */
+/* How many bytes the first row of so many bytes has, with its end; 0 where it hasn't come whole. Asked again with more bytes it goes on
+   where it stood. */
 uint32_t find_row(struct row_finder *finder, const struct copy_form *form, const char *bytes, uint32_t count);
 
 /* How many bytes of a row its end has: 1 or 2, or 0 where there is none. */

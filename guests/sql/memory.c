@@ -1,6 +1,6 @@
-/* What the C library has for bytes, eight at a time: Debian's picolibc goes byte by byte, and the machine takes no access that isn't aligned.
-   Where two places lie differently in their words what is read is put together from two of them. No word is read but one in which a wanted
-   byte lies. */
+/* What the C library has for bytes, eight at a time: Debian's picolibc goes byte by byte, and the machine takes no access that isn't
+   aligned. Where two places lie differently in their words what is read is put together from two of them. No word is read but one in
+   which a wanted byte lies. */
 #include <stddef.h>
 #include <stdint.h>
 

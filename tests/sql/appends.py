@@ -227,7 +227,8 @@ def cycle(after: dict[int, set[int]]) -> list[int] | None:
 def told(history: list[Transaction], place: int) -> str:
     if place >= len(history):
         return "what began after that"
-    steps = [f"{step.key}+{step.appended}" if step.appended is not None else f"{step.key}={step.read[-3:]}" for step in history[place].steps]
+    steps = [f"{step.key}+{step.appended}" if step.appended is not None else f"{step.key}={step.read[-3:]}"
+             for step in history[place].steps]
     return f"{history[place].began:.3f}..{history[place].ended:.3f} {' '.join(steps)}"
 
 

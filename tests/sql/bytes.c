@@ -1,5 +1,5 @@
-/* guests/sql/memory.c beside this machine's C library: random calls on places that lie in their words in every way. It prints how many calls
-   there were, or ends at the first that comes out otherwise. */
+/* guests/sql/memory.c beside this machine's C library: random calls on places that lie in their words in every way. It prints how many
+   calls there were, or ends at the first that comes out otherwise. */
 #include <stdio.h>
 #include <stdlib.h>
 #include <string.h>
@@ -50,9 +50,10 @@ static int differs(int kind, size_t to, size_t from, size_t count) {
         return sign(guest_memcmp(ours + ROOM / 2 + to % 8, ours + from, count))
                != sign(memcmp(theirs + ROOM / 2 + to % 8, theirs + from, count));
     case 4: return guest_strlen((const char *)one) != strlen((const char *)other);
-    default:
-        return (const uint8_t *)guest_memchr(one, (int)(from % 4), count) - ours != (const uint8_t *)memchr(other, (int)(from % 4), count) - theirs
-               && (guest_memchr(one, (int)(from % 4), count) != NULL || memchr(other, (int)(from % 4), count) != NULL);
+    default: {
+        const uint8_t *found = guest_memchr(one, (int)(from % 4), count), *wanted = memchr(other, (int)(from % 4), count);
+        return (found == NULL) != (wanted == NULL) || (found != NULL && found - ours != wanted - theirs);
+    }
     }
     return memcmp(ours, theirs, ROOM) != 0;
 }

@@ -17,9 +17,10 @@ from typing import Any
 sys.path.insert(0, str(Path(__file__).resolve().parents[2]))
 from tests.postgres import Error, Postgres
 
-PIECES = ["a", "b", "x", "N", ",", "|", "\t", ";", '"', "'", "\\", "\\N", "\\.", "n", "\n", "\n", "1", "7", "0", "", "%", ".", "-", "é", " ",
-          "\\t", "\\x4", "\\101", '""', "\\\\"]
-VALUES = [None, "", "a", "x,y", "t\tu", "n\nm", 'q"r', "\\N", "\\.", "NULL", "back\\slash", "it's", "|", "ü", " ", "\r", "\b\v\f", "%", "-", "N"]
+PIECES = ["a", "b", "x", "N", ",", "|", "\t", ";", '"', "'", "\\", "\\N", "\\.", "n", "\n", "\n", "1", "7", "0", "", "%", ".", "-", "é",
+          " ", "\\t", "\\x4", "\\101", '""', "\\\\"]
+VALUES = [None, "", "a", "x,y", "t\tu", "n\nm", 'q"r', "\\N", "\\.",
+          "NULL", "back\\slash", "it's", "|", "ü", " ", "\r", "\b\v\f", "%", "-", "N"]
 NULLS = ["", "NULL", "\\N", "x", "a,b", '"', "N", "-"]
 SETUP = "DROP TABLE IF EXISTS t; CREATE TABLE t(a text, b text, c text)"
 Case = list[Any]

@@ -32,12 +32,14 @@ WORDS = [
     ("COPY t TO STDOUT", b"1\tx\n"), ("copy main.t(b, a) to stdout", b"x\t1\n"), ('COPY "public"."t" ("a") TO STDOUT;', b"1\n"),
     ("COPY t TO STDOUT WITH DELIMITER AS '|' NULL AS ''", b"1|x\n"), ("COPY t TO STDOUT CSV HEADER", b"a,b\n1,x\n"),
     ("COPY t TO STDOUT CSV QUOTE AS '%' FORCE QUOTE b", b"1,%x%\n"), ("COPY t TO STDOUT WITH DELIMITER AS E'\\x7c'", None),
-    ("COPY t TO STDOUT DELIMITER E'\\t' NULL E'\\\\N'", b"1\tx\n"), ("/* ( */ COPY (SELECT ')' || b, (1) FROM t) TO STDOUT -- x", b")x\t1\n"),
+    ("COPY t TO STDOUT DELIMITER E'\\t' NULL E'\\\\N'", b"1\tx\n"), 
+    ("/* ( */ COPY (SELECT ')' || b, (1) FROM t) TO STDOUT -- x", b")x\t1\n"),
     ("COPY t TO STDOUT (FORMAT 'csv', DELIMITER ';', HEADER 1, ENCODING 'utf-8', FORCE_QUOTE (a))", b'a;b\n"1";x\n'),
 ]
 PGBENCH = [
-    "drop table if exists pgbench_accounts, pgbench_branches", "create table pgbench_branches(bid int not null,bbalance int,filler char(88)) "
-    "with (fillfactor=100)", "create unlogged table pgbench_accounts(aid    int not null,bid int,abalance int,filler char(84)) with (fillfactor=100)",
+    "drop table if exists pgbench_accounts, pgbench_branches",
+    "create table pgbench_branches(bid int not null,bbalance int,filler char(88)) with (fillfactor=100)",
+    "create unlogged table pgbench_accounts(aid    int not null,bid int,abalance int,filler char(84)) with (fillfactor=100)",
     "begin", "truncate table pgbench_accounts, pgbench_branches", "insert into pgbench_branches(bid,bbalance) values(1,0)",
     "insert into pgbench_accounts(aid,bid,abalance,filler) select aid, (aid - 1) / 100000 + 1, 0, '' from generate_series(1, 200) as aid",
     "commit", "vacuum analyze pgbench_branches", "alter table pgbench_branches add primary key (bid)",
@@ -68,8 +70,8 @@ def words(client: Postgres) -> Iterator[tuple[str, str | None]]:
 def kinds(client: Postgres) -> Iterator[tuple[str, str | None]]:
     """Values by their columns, and back."""
     client.ask("CREATE TABLE k(i INTEGER, r REAL, t TEXT, b BLOB, n NUMERIC, g AS (i + 1), y BOOLEAN, v VARCHAR(3))")
-    client.copy_in("COPY k FROM STDIN", b"007\t1\t007\t\\\\x00ff\t1.0\tt\t007\n-5\t1e300\t-5\t\\\\x\tabc\tfalse\t\n99999999999999999999\tx\t\t",
-                   b"plain\t9\t1\t\xc3\xa9\n")
+    client.copy_in("COPY k FROM STDIN", b"007\t1\t007\t\\\\x00ff\t1.0\tt\t007\n-5\t1e300\t-5\t\\\\x\tabc\tfalse\t\n",
+                   b"99999999999999999999\tx\t\tplain\t9\t1\t\xc3\xa9\n")
     rows = client.rows("SELECT typeof(i) || i, typeof(r), t, typeof(b) || hex(b), typeof(n), y, v, g FROM k ORDER BY rowid")
     yield "values by their columns", differs(rows, [("integer7", "real", "007", "blob00FF", "integer", 1, "007", 8.0),
                                                     ("integer-5", "real", "-5", "blob", "text", 0, "", -4.0),
@@ -97,8 +99,8 @@ def in_binary(client: Postgres) -> Iterator[tuple[str, str | None]]:
     wrong = [data[1:], data[:11] + b"\0\1\0\0" + data[15:], data.replace(b"\0\4\0\0\0\x08", b"\0\3\0\0\0\x08"), data[:-8],
              data.replace(struct.pack(">iq", 8, -7), struct.pack(">i", 7) + b"1234567"), b"PGCOPY"]
     codes = [code_of(lambda data=data: client.copy_in("COPY k FROM STDIN (FORMAT binary)", data)) for data in wrong]
-    yield "what is no binary", differs([codes, client.rows("SELECT count(*) FROM k")], [["22P04", "22P04", "22P04", "22P04", "22P03", "22P04"],
-                                                                                        [(2,)]])
+    wanted = ["22P04", "22P04", "22P04", "22P04", "22P03", "22P04"]
+    yield "what is no binary", differs([codes, client.rows("SELECT count(*) FROM k")], [wanted, [(2,)]])
     client.ask("DROP TABLE k")
 
 
@@ -118,14 +120,16 @@ def all_or_none(client: Postgres) -> Iterator[tuple[str, str | None]]:
     client.ask("ROLLBACK TO s")
     tag = client.copy_in("COPY n FROM STDIN", b"4\tx\n").tag
     client.ask("COMMIT")
-    yield "in a transaction", differs([code, again, tag, client.rows("SELECT * FROM n")], ["23505", "25P02", "COPY 1", [(1, "own"), (4, "x")]])
+    yield "in a transaction", differs([code, again, tag, client.rows("SELECT * FROM n")],
+                                      ["23505", "25P02", "COPY 1", [(1, "own"), (4, "x")]])
     try:
         client.copy_in("COPY n FROM STDIN", b"50\tx\n60\ty\n60\tz\n")
         why = ""
     except Error as error:
         why = error.why
     yield "its line is named", differs(why, "line 3: UNIQUE constraint failed: n.a")
-    client.send(message(b"Q", string("COPY n FROM STDIN")) + message(b"d", b"70\tx\n") + message(b"H") + message(b"S") + message(b"Q", string("x")))
+    client.send(message(b"Q", string("COPY n FROM STDIN")) + message(b"d", b"70\tx\n") + message(b"H") + message(b"S")
+                + message(b"Q", string("x")))
     code = code_of(client.results)
     client.send(message(b"d", b"late\n") + message(b"c"))
     yield "another message ends it", differs([code, client.rows("SELECT count(*) FROM n")], ["08P01", [(2,)]])
@@ -201,7 +205,8 @@ def of_pgbench(client: Postgres) -> Iterator[tuple[str, str | None]]:
         "t JOIN generate_series((1), max(1, 2)) AS g ON g = t.a ORDER BY 1")]
     yield "series", differs(rows, [[(1,), (2,), (3,)], [(5,), (3,)], [], [(1, "x", 1)]])
     tags = [code_of(lambda sql=sql: client.ask(sql)) for sql in ("DROP TABLE pgbench_accounts, nowhere", "SELECT 1 FROM pgbench_accounts",
-                                                                 "TRUNCATE pgbench_accounts, nowhere", "VACUUM (FULL, ANALYZE) t", "VACUUM FULL",
+                                                                 "TRUNCATE pgbench_accounts, nowhere", "VACUUM (FULL, ANALYZE) t",
+                                                                 "VACUUM FULL",
                                                                  "DROP TABLE pgbench_accounts, pgbench_branches CASCADE")]
     yield "all or none of several", differs(tags, ["42P01", "none", "42P01", "none", "none", "none"])
     code = code_of(lambda: client.execute("TRUNCATE t, t"))

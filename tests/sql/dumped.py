@@ -22,8 +22,8 @@ def loaded(path: Path, port: int, web: int, folder: Path) -> tuple[str, str | No
     text = subprocess.run(["sqlite3", path, ".dump"], stdout=subprocess.PIPE, text=True, check=True).stdout
     statements = re.sub(r"(?m)^(BEGIN TRANSACTION|COMMIT);\n", "", text)
     begun = time.monotonic()
-    ran = subprocess.run(["psql", "-h", "127.0.0.1", "-p", str(port), "-U", "me", "-X", "-q", "-v", "ON_ERROR_STOP=1", "db"], input=statements,
-                         capture_output=True, text=True, env={**os.environ, "PGSSLMODE": "disable"})
+    command = ["psql", "-h", "127.0.0.1", "-p", str(port), "-U", "me", "-X", "-q", "-v", "ON_ERROR_STOP=1", "db"]
+    ran = subprocess.run(command, input=statements, capture_output=True, text=True, env={**os.environ, "PGSSLMODE": "disable"})
     took = time.monotonic() - begun
     with urllib.request.urlopen(f"http://127.0.0.1:{web}/db", timeout=300) as answer:
         (folder / "came").write_bytes(answer.read())

@@ -18,11 +18,10 @@ FLAGS = [*LARGE, "-DDISK_SECTORS=4096", "-DJOURNAL_SECTOR=2048", "-DLOG_SECTOR=3
 FILES = ["vfs", "locks", "turns", "database"]
 SANITIZERS = ["-g", "-fsanitize=address,undefined", "-fno-sanitize-recover=all"]
 UNITS = ["digest", "locks", "statement", "lexer", "escapes", "text", "turns", "request", "cksum"]
-SESSIONS = ["text", "log", "settings", "patterns", "functions", "digest", "password", "scram", "statement", "lexer", "dialect", "session", "work", "query",
-            "rows", "messages", "parameters", "types", "trigger", "extended", "copy_words", "copy_rows", "copy", "postgres", "request", "table", "page", "door", "cksum", "pages", "dump", "whole",
-            "http",
-            "tokens", "escapes", "casts", "translate", "arrays", "sets", "expressions", "declarations", "catalog", "catalog_queries",
-            "postgres_sql"]
+SESSIONS = ["text", "log", "settings", "patterns", "functions", "digest", "password", "scram", "statement", "lexer", "dialect", "session",
+            "work", "query", "rows", "messages", "parameters", "types", "trigger", "extended", "copy_words", "copy_rows", "copy",
+            "postgres", "request", "table", "page", "door", "cksum", "pages", "dump", "whole", "http", "tokens", "escapes", "casts",
+            "translate", "arrays", "sets", "expressions", "declarations", "catalog", "catalog_queries", "postgres_sql"]
 HOSTS = ["disk", "stacks", "ticks"]  # what the guest has otherwise
 
 

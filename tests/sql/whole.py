@@ -23,7 +23,8 @@ CREATE TABLE "odd ""name"" of; it"("a ""b""" TEXT, two REAL GENERATED ALWAYS AS 
 CREATE VIEW total AS SELECT sum(balance) AS sum FROM account;
 CREATE INDEX by_balance ON account(balance);
 CREATE TRIGGER noted AFTER UPDATE ON account WHEN new.balance > 5000 BEGIN INSERT INTO "odd ""name"" of; it"(v) VALUES(new.id); END;
-WITH RECURSIVE c(x) AS (VALUES(1) UNION ALL SELECT x + 1 FROM c WHERE x < 1000) INSERT INTO account SELECT x, 100, hex(zeroblob(200)) FROM c;
+WITH RECURSIVE c(x) AS (VALUES(1) UNION ALL SELECT x + 1 FROM c WHERE x < 1000)
+INSERT INTO account SELECT x, 100, hex(zeroblob(200)) FROM c;
 INSERT INTO "odd ""name"" of; it"("a ""b""", v) VALUES('it''s; "x"', x'00ff'), (NULL, 1e300), (char(10, 13, 9, 92), -1.5e-300),
 ('', 0.1), ('x', 9223372036854775807), ('-- no comment', x''), ('ünïcode', -9e999), ('z', 3.0);
 ANALYZE'''
