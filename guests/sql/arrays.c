@@ -165,7 +165,8 @@ static void do_length(sqlite3_context *context, int count, sqlite3_value **value
 static void do_to_string(sqlite3_context *context, int count, sqlite3_value **values) {
     struct elements elements;
     struct text joined = {.most = MOST_VALUE_BYTES};
-    const char *between = (const char *)sqlite3_value_text(values[1]), *null = count > 2 ? (const char *)sqlite3_value_text(values[2]) : NULL;
+    const char *between = (const char *)sqlite3_value_text(values[1]);
+    const char *null = count > 2 ? (const char *)sqlite3_value_text(values[2]) : NULL;
     if (between == NULL || !begin(context, values[0], &elements))
         return;
     for (int is_next = 0; elements_next(&elements);) {

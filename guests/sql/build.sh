@@ -66,9 +66,11 @@ mkdir "$room/one"
     exit 1
 }
 
-# What SQLite is told of this system (https://sqlite.org/compile.html): a file system and memory of ours, one thread, nothing loaded, a
-# small cache for each of many connections; and what clients of PostgreSQL expect: foreign keys hold, and "a" is never a string.
-options="-DSQLITE_OS_OTHER=1 -DSQLITE_THREADSAFE=0 -DSQLITE_OMIT_LOAD_EXTENSION -DSQLITE_TEMP_STORE=3 -DSQLITE_DEFAULT_MEMSTATUS=0
+# What SQLite is told of this system (https://sqlite.org/compile.html): a file system and memory of ours, nothing loaded, one thread for a
+# connection, as each of ours has turns of its own, and pages that all of them share, few for each; and what clients of PostgreSQL expect:
+# foreign keys hold, and "a" is never a string.
+options="-DSQLITE_OS_OTHER=1 -DSQLITE_THREADSAFE=2 -DSQLITE_ENABLE_MEMORY_MANAGEMENT -DSQLITE_OMIT_LOAD_EXTENSION -DSQLITE_TEMP_STORE=3
+    -DSQLITE_DEFAULT_MEMSTATUS=0
     -DSQLITE_ENABLE_MEMSYS5 -DSQLITE_ZERO_MALLOC -DSQLITE_OMIT_LOCALTIME -DSQLITE_DQS=0 -DSQLITE_OMIT_DEPRECATED
     -DSQLITE_OMIT_SHARED_CACHE -DSQLITE_USE_ALLOCA -DSQLITE_MAX_MMAP_SIZE=0
     -DSQLITE_DEFAULT_CACHE_SIZE=-256 -DSQLITE_DEFAULT_LOOKASIDE=1200,27

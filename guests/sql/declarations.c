@@ -96,7 +96,8 @@ static void do_checks(sqlite3_context *context, int count, sqlite3_value **value
     if (sql == NULL)
         return;
     add(&checks, "[");
-    for (struct token token = first_token(sql); token.kind != END_OF_TEXT; two_before = before, before = token, token = token_after(&token)) {
+    struct token token = first_token(sql);
+    for (; token.kind != END_OF_TEXT; two_before = before, before = token, token = token_after(&token)) {
         struct token begin = token_after(&token);
         if (!is(&token, "CHECK") || !is(&begin, "("))
             continue;
@@ -141,7 +142,8 @@ static void do_type(sqlite3_context *context, int count, sqlite3_value **values)
     for (char *at = name; *at != '\0'; at++)
         *at |= *at >= 'A' && *at <= 'Z' ? 32 : 0;
     sqlite3_snprintf(sizeof sought, sought, " %s ", is(&second, "varying") ? "varchar" : name);
-    int type = (int)type_of_declaration(declared), is_zoned = strncmp(name, "timestamp", 9) == 0 && strstr(declared, "ith time zone") != NULL;
+    int type = (int)type_of_declaration(declared);
+    int is_zoned = strncmp(name, "timestamp", 9) == 0 && strstr(declared, "ith time zone") != NULL;
     for (unsigned i = 0; first.kind != END_OF_TEXT && i < sizeof types / sizeof types[0]; i++)
         if (strstr(types[i].names, sought) != NULL)
             type = types[i].type;

@@ -6,7 +6,8 @@
 static uint32_t read_digits(const char *at, uint32_t base, uint32_t most, uint32_t *value) {
     uint32_t count = 0;
     for (*value = 0; count < most; count++) {
-        uint32_t c = (uint8_t)at[count], digit = c >= '0' && c <= '9' ? c - '0' : (c | 32) >= 'a' && (c | 32) <= 'f' ? (c | 32) - 'a' + 10 : 16;
+        uint32_t c = (uint8_t)at[count], letter = c | 32;
+        uint32_t digit = c >= '0' && c <= '9' ? c - '0' : letter >= 'a' && letter <= 'f' ? letter - 'a' + 10 : 16;
         if (digit >= base)
             break;
         *value = base * *value + digit;

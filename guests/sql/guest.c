@@ -30,31 +30,13 @@ uint64_t clock_now(void) { return clock_steps() / STEPS_A_MILLISECOND; }
 /* SQLite asks for memory above all where it compiles, which has no operations: it looks after so many times whether the turn is over. */
 #define ASKED 16
 
-/* The timer lets be who is within the memory that all connections share, and within the pages of it. */
 static sqlite3_mem_methods memory;
-static sqlite3_pcache_methods2 pages;
 
 static void *get(int count) {
     static uint32_t asked;
     if (++asked % ASKED == 0)
         turn_look();
-    turn_hold();
-    void *got = memory.xMalloc(count);
-    turn_release();
-    return got;
-}
-
-static void give(void *what) {
-    turn_hold();
-    memory.xFree(what);
-    turn_release();
-}
-
-static void *change(void *what, int count) {
-    turn_hold();
-    void *got = memory.xRealloc(what, count);
-    turn_release();
-    return got;
+    return memory.xMalloc(count);
 }
 
 static int config_memory(void) {
@@ -62,75 +44,50 @@ static int config_memory(void) {
     int said = sqlite3_config(SQLITE_CONFIG_HEAP, heap, (int)sizeof heap, 32);
     if (said == SQLITE_OK)
         said = sqlite3_config(SQLITE_CONFIG_GETMALLOC, &memory);
-    sqlite3_mem_methods held = memory;
-    held.xMalloc = get;
-    held.xFree = give;
-    held.xRealloc = change;
-    return said == SQLITE_OK ? sqlite3_config(SQLITE_CONFIG_MALLOC, &held) : said;
+    sqlite3_mem_methods looking = memory;
+    looking.xMalloc = get;
+    return said == SQLITE_OK ? sqlite3_config(SQLITE_CONFIG_MALLOC, &looking) : said;
 }
 
-static sqlite3_pcache *create(int size, int extra, int is_purgeable) {
-    turn_hold();
-    sqlite3_pcache *cache = pages.xCreate(size, extra, is_purgeable);
-    turn_release();
-    return cache;
+/* What all connections share SQLite changes between the two calls of a mutex. Only one thread runs here: so it is enough that nobody's turn
+   ends between them. */
+
+static int nothing(void) { return SQLITE_OK; }
+
+static sqlite3_mutex *any_mutex(int kind) {
+    static uint64_t one;
+    (void)kind;
+    return (sqlite3_mutex *)&one;
 }
 
-static void set_size(sqlite3_pcache *cache, int count) {
+static void no_mutex(sqlite3_mutex *mutex) { (void)mutex; }
+
+static void enter(sqlite3_mutex *mutex) {
+    (void)mutex;
     turn_hold();
-    pages.xCachesize(cache, count);
-    turn_release();
 }
 
-static sqlite3_pcache_page *fetch(sqlite3_pcache *cache, unsigned number, int is_made) {
-    turn_hold();
-    sqlite3_pcache_page *page = pages.xFetch(cache, number, is_made);
-    turn_release();
-    return page;
+static int try_to_enter(sqlite3_mutex *mutex) {
+    enter(mutex);
+    return SQLITE_OK;
 }
 
-static void unpin(sqlite3_pcache *cache, sqlite3_pcache_page *page, int is_dropped) {
-    turn_hold();
-    pages.xUnpin(cache, page, is_dropped);
-    turn_release();
-}
-
-static void rename_page(sqlite3_pcache *cache, sqlite3_pcache_page *page, unsigned from, unsigned to) {
-    turn_hold();
-    pages.xRekey(cache, page, from, to);
+static void leave(sqlite3_mutex *mutex) {
+    (void)mutex;
     turn_release();
 }
 
-static void truncate_cache(sqlite3_pcache *cache, unsigned most) {
-    turn_hold();
-    pages.xTruncate(cache, most);
-    turn_release();
-}
-
-static void destroy(sqlite3_pcache *cache) {
-    turn_hold();
-    pages.xDestroy(cache);
-    turn_release();
-}
-
-static void shrink(sqlite3_pcache *cache) {
-    turn_hold();
-    pages.xShrink(cache);
-    turn_release();
-}
-
-static int config_pages(void) {
-    int said = sqlite3_config(SQLITE_CONFIG_GETPCACHE2, &pages);
-    sqlite3_pcache_methods2 held = pages;
-    held.xCreate = create;
-    held.xCachesize = set_size;
-    held.xFetch = fetch;
-    held.xUnpin = unpin;
-    held.xRekey = rename_page;
-    held.xTruncate = truncate_cache;
-    held.xDestroy = destroy;
-    held.xShrink = shrink;
-    return said == SQLITE_OK ? sqlite3_config(SQLITE_CONFIG_PCACHE2, &held) : said;
+static int config_mutexes(void) {
+    static const sqlite3_mutex_methods methods = {
+        .xMutexInit = nothing,
+        .xMutexEnd = nothing,
+        .xMutexAlloc = any_mutex,
+        .xMutexFree = no_mutex,
+        .xMutexEnter = enter,
+        .xMutexTry = try_to_enter,
+        .xMutexLeave = leave,
+    };
+    return sqlite3_config(SQLITE_CONFIG_MUTEX, &methods);
 }
 
 /* SQLite asks for these where it has no file system of its own. */
@@ -150,7 +107,7 @@ static int share_pages(void) {
 int guest_start(void) {
     static uint8_t thread[64] __attribute__((aligned(16))); /* what picolibc has once a thread: errno */
     __asm__ volatile("mv tp, %0" ::"r"(thread));
-    if (config_memory() != SQLITE_OK || share_pages() != SQLITE_OK || config_pages() != SQLITE_OK || log_start() != SQLITE_OK || !vfs_start()
+    if (config_mutexes() != SQLITE_OK || config_memory() != SQLITE_OK || share_pages() != SQLITE_OK || log_start() != SQLITE_OK || !vfs_start()
         || sqlite3_initialize() != SQLITE_OK)
         return 0;
     database_start();

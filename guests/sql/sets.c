@@ -27,7 +27,10 @@ struct cursor {
 static struct cursor *of(sqlite3_vtab_cursor *cursor) { return (struct cursor *)cursor; }
 
 static enum kind kind_of(const char *name) {
-    return strncmp(name, "unnest ", 7) == 0 ? UNNEST : strncmp(name, "generate_se", 11) == 0 ? SERIES : name[0] == 'g' ? SUBSCRIPTS : NOTHING;
+    return strncmp(name, "unnest ", 7) == 0        ? UNNEST
+           : strncmp(name, "generate_se", 11) == 0 ? SERIES
+           : name[0] == 'g'                        ? SUBSCRIPTS
+                                                   : NOTHING;
 }
 
 /* The columns of a name, and those by which its values come. */

@@ -1,5 +1,6 @@
 /* PostgreSQL's functions that make rows, as tables: unnest, generate_series, generate_subscripts and pg_partition_ancestors. What their
-   columns are called stands in the tables' names, as in "unnest colid arridx": of each value, and of its number, from 1 on; - where that isn't asked for. */
+   columns are called stands in the tables' names, as in "unnest colid arridx": of each value, and of its number, from 1 on, or - where
+   that isn't asked for. */
 #ifndef SETS_H
 #define SETS_H
 

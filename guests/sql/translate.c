@@ -408,7 +408,8 @@ static void write_sign(struct writing *writing) {
 
 /* A word of a clause: where in its query it is. */
 static void write_clause(struct writing *writing) {
-    static const char *const ends[] = {"WHERE", "GROUP", "HAVING", "ORDER", "LIMIT", "OFFSET", "UNION", "INTERSECT", "EXCEPT", "WINDOW", NULL};
+    static const char *const ends[] = {"WHERE", "GROUP",     "HAVING", "ORDER",  "LIMIT", "OFFSET",
+                                       "UNION", "INTERSECT", "EXCEPT", "WINDOW", NULL};
     struct frame *frame = top(writing);
     const struct token *token = &writing->token;
     if (is(token, "SELECT"))
@@ -507,8 +508,8 @@ static int is_serial(const struct token *token) {
 }
 
 int has_serial(const char *sql) {
-    struct token before = first_token(sql);
-    for (struct token token = token_after(&before); token.kind != END_OF_TEXT && !is(&token, ";"); before = token, token = token_after(&token))
+    struct token before = first_token(sql), token = token_after(&before);
+    for (; token.kind != END_OF_TEXT && !is(&token, ";"); before = token, token = token_after(&token))
         if (is_serial(&token) && is_name(&before))
             return 1;
     return 0;
@@ -557,6 +558,10 @@ static void write_name(struct writing *writing) {
     copy(writing);
 }
 
+static int is_behind_sign(const struct writing *writing) {
+    return writing->operand == NONE && writing->before[0].kind == SIGN && !is(&writing->before[0], "(");
+}
+
 static void write_word(struct writing *writing) {
     static const char *const any[] = {"ANY", "SOME", "ALL", NULL}, *const dated[] = {"date", "timestamp", "timestamptz", "time", NULL},
                                     *const passed[] = {"LATERAL", "ONLY", NULL};
@@ -573,7 +578,7 @@ static void write_word(struct writing *writing) {
             refuse(writing, "22021", NOT_UTF8);
     } else if (is_array && (is_called || after.at[0] == '[')) {
         begin_array(writing);
-    } else if (is_called && is_one(token, any) && writing->operand == NONE && writing->before[0].kind == SIGN && !is(&writing->before[0], "(")) {
+    } else if (is_called && is_one(token, any) && is_behind_sign(writing)) {
         begin_any(writing);
     } else if (is(token, "OPERATOR") && is_called) {
         write_named_operator(writing);

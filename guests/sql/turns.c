@@ -49,7 +49,7 @@ void turn_leave(void) {
 }
 
 void turn_look(void) {
-    if (running != NULL && clock_now() >= until)
+    if (running != NULL && running->held == 0 && clock_now() >= until)
         turn_leave();
 }
 

@@ -7,7 +7,7 @@
 
 struct turn {
     int is_begun;   /* the work has, and isn't over */
-    int held;       /* so often the timer was told to let it be */
+    int held;       /* so often it was told that it isn't to be left */
     uint32_t given; /* how many it was given */
     void (*act)(void *with);
     void *with;
@@ -25,7 +25,7 @@ void turn_leave(void);
 /* The timer's: leaves the work, unless it is held. Answers whether it was left, when its next turn comes. */
 int turn_tick(void);
 
-/* Within the work: the timer lets it be, since it changes what others use by a call of SQLite's; and no more. */
+/* Within the work: it isn't left at a look, nor by the timer, since it changes what others use; and no more. */
 void turn_hold(void);
 void turn_release(void);
 

@@ -7,7 +7,8 @@ from tests.postgres import Error, Postgres
 
 MOST = 200  # milliseconds of the guest's time
 SETUP = ["CREATE TABLE v(a)", "CREATE TABLE w(a INTEGER PRIMARY KEY, b TEXT)", "CREATE TABLE j(b)",
-         "WITH RECURSIVE n(x) AS (VALUES(1) UNION ALL SELECT x + 1 FROM n WHERE x < 20000) INSERT INTO w SELECT x, hex(x * 7919 % 20011) FROM n",
+         "WITH RECURSIVE n(x) AS (VALUES(1) UNION ALL SELECT x + 1 FROM n WHERE x < 20000) "
+         "INSERT INTO w SELECT x, hex(x * 7919 % 20011) FROM n",
          "WITH RECURSIVE n(x) AS (VALUES(1) UNION ALL SELECT x + 1 FROM n WHERE x < 44000) INSERT INTO j SELECT json_group_array(x) FROM n"]
 # What each comes to: a value, None where nothing is asked, or a SQLSTATE.
 LONG = {
@@ -20,7 +21,8 @@ LONG = {
     "256 KB in quotes": (f"SELECT length('{'e' * 250_000}')", 250_000),
     "an index over 20,000 rows": ("CREATE INDEX sorted ON w(b)", None),
     "20,000 rows sorted": ("SELECT a FROM w ORDER BY b || '', a LIMIT 1", 1031),
-    "40 rows of 120 KB sorted": ("SELECT length(b) FROM (SELECT hex(zeroblob(60000)) || a AS b FROM w LIMIT 40) ORDER BY b LIMIT 1", 120_001),
+    "40 rows of 120 KB sorted": ("SELECT length(b) FROM (SELECT hex(zeroblob(60000)) || a AS b FROM w LIMIT 40) ORDER BY b LIMIT 1",
+                                 120_001),
     "20,000 rows in groups": ("SELECT count(*) FROM (SELECT b FROM w GROUP BY b || '')", 20_000),
     "20,000 distinct rows": ("SELECT count(DISTINCT b || '') FROM w", 20_000),
     "JSON of 250 KB": ("SELECT length(json(b)) FROM j", 252_895),

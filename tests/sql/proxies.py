@@ -4,13 +4,13 @@ from __future__ import annotations
 import os
 import re
 import shutil
+import socket
 import subprocess
 import tempfile
 import time
 from collections.abc import Iterator
 from pathlib import Path
 
-from tests.served import free_port
 from tests.sql.host import ROOT, Built, Served
 from tests.sql.units import differs
 
@@ -33,16 +33,20 @@ http {{
 
 def lines_of(name: str) -> str:
     """The indented lines of the page behind a proxy's name."""
-    return re.search(rf"\*\*{name}\*\*.*?\n\n((?:    .*\n|\n)+)", PAGE.read_text())[1]
+    found = re.search(rf"\*\*{name}\*\*.*?\n\n((?:    .*\n|\n)+)", PAGE.read_text())
+    return found[1] if found else ""
+
+
+def free_port() -> int:
+    with socket.create_server(("127.0.0.1", 0)) as one:
+        return int(one.getsockname()[1])
 
 
 def program(*names: str) -> str | None:
     return next((found for name in names if (found := shutil.which(name, path=f"{os.environ['PATH']}:/usr/sbin:/usr/bin"))), None)
 
 
-def wait_for(port: int, process: subprocess.Popen[str]) -> None:
-    import socket
-
+def wait_for(port: int, process: subprocess.Popen[bytes]) -> None:
     for _ in range(300):
         try:
             socket.create_connection(("127.0.0.1", port), 1).close()
@@ -61,8 +65,9 @@ def asked(*command: str) -> str:
 
 def certificate(folder: Path) -> None:
     """Of `localhost`, with its key in one file."""
-    subprocess.run(["openssl", "req", "-x509", "-newkey", "ec", "-pkeyopt", "ec_paramgen_curve:prime256v1", "-nodes", "-days", "1", "-subj",
-                    "/CN=localhost", "-addext", "subjectAltName=DNS:localhost", "-keyout", folder / "db.key", "-out", folder / "db.crt"], check=True,
+    kind = ["-newkey", "ec", "-pkeyopt", "ec_paramgen_curve:prime256v1", "-nodes", "-days", "1"]
+    name = ["-subj", "/CN=localhost", "-addext", "subjectAltName=DNS:localhost"]
+    subprocess.run(["openssl", "req", "-x509", *kind, *name, "-keyout", folder / "db.key", "-out", folder / "db.crt"], check=True,
                    capture_output=True)
     (folder / "db.pem").write_text((folder / "db.crt").read_text() + (folder / "db.key").read_text())
 
@@ -101,11 +106,13 @@ def nginx(served: Served, folder: Path) -> Iterator[tuple[str, str | None]]:
             wait_for(port, process)
             url = f"https://localhost:{port}"
             curl = ["curl", "-s", "--cacert", str(folder / "db.crt")]
-            yield "curl by nginx", differs(asked(*curl, "-d", "CREATE TABLE t(a); INSERT INTO t VALUES(7); SELECT a FROM t", f"{url}/sql"), "7\n")
+            sql = "CREATE TABLE t(a); INSERT INTO t VALUES(7); SELECT a FROM t"
+            yield "curl by nginx", differs(asked(*curl, "-d", sql, f"{url}/sql"), "7\n")
             browser = ["-H", "User-Agent: Mozilla/5.0", "-H", f"Origin: {url}"]
             yield "a browser's page by nginx", differs(asked(*curl, *browser, "-d", "SELECT 8", f"{url}/sql"), "8\n")
             other = ["-H", "User-Agent: Mozilla/5.0", "-H", "Origin: https://other.example"]
-            yield "another site's", differs(asked(*curl, *other, "-o", "/dev/null", "-w", "%{http_code}", "-d", "SELECT 8", f"{url}/sql"), "403")
+            status = asked(*curl, *other, "-o", "/dev/null", "-w", "%{http_code}", "-d", "SELECT 8", f"{url}/sql")
+            yield "another site's", differs(status, "403")
             subprocess.run([*curl, "-o", folder / "copy", f"{url}/db"], check=True)
             yield "the database by nginx", None if (folder / "copy").read_bytes()[:15] == b"SQLite format 3" else "no database"
         finally:
