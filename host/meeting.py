@@ -325,6 +325,8 @@ class Meeting:
 
     def role_of_peer(self, now):
         """What it said last; the standby of a live host is that as long as it doesn't say otherwise."""
+        if self.peer_stands:
+            return "frozen"
         return "standby" if self.host.session and self.host.live and not self.are_two_live(now) else self.peer_role
 
     def stale(self, connection, hello):

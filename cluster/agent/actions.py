@@ -371,7 +371,7 @@ class Pair:
         try:
             self.go_live()
         except Failure as failure:
-            if isinstance(failure, Declined) and failure.name == "PeerIsLive":
+            if isinstance(failure, Declined) and failure.name == "PeerIsLive" and not self.follows("demote", "stop"):
                 self.note(self.other_lives)
             self.cluster.publish(None)
             raise
@@ -391,15 +391,16 @@ class Pair:
                 reason = why_not(status, life)
                 if reason:
                     raise Failure(GENERIC, reason)
-                self.daemon.command("promote", **({"fenced": True} if self.has_stopped_other() else {}))
+                self.daemon.command("promote", **({"fenced": True} if self.follows("stop") else {}))
         status = self.running()
         self.refuse_stale(status)
         self.name_life(status)
 
-    def has_stopped_other(self) -> bool:
-        """Whether Pacemaker had the other instance stopped just before, by its agent or by fencing, which it orders so. Then what the
-        daemon heard of its peer before says nothing. After all else, as a demote, the daemon looks for itself whether that is live."""
-        return any(node != self.cluster.node for node in meta("notify_stop_uname").split())
+    def follows(self, *operations: str) -> bool:
+        """Whether Pacemaker had one of these done with the other instance just before this promote, which it orders so. After a stop, by its
+        agent or by fencing, what the daemon heard of its peer before says nothing; else the daemon looks whether that is live."""
+        nodes = [node for operation in operations for node in meta(f"notify_{operation}_uname").split()]
+        return any(node != self.cluster.node for node in nodes)
 
     def boot(self, booting: str) -> None:
         """Boots the guest. The property is written before, so that it is there whatever becomes of this host meanwhile."""
@@ -459,6 +460,7 @@ class Pair:
 
     def standby_has_stopped(self) -> None:
         """Pacemaker says that the other instance has stopped: by its agent, or since its host is fenced."""
+        forget(self.other_lives)
         status = self.status()
         if status is None or status["role"] not in ("live", "frozen") or status["mode"] == "alone":
             return
