@@ -49,21 +49,22 @@ def folder_of(plan: argparse.Namespace) -> Path:
 
 
 def run(plan: argparse.Namespace) -> int:
-    for _ in range(TRIES - 1):
+    why = ""
+    for _ in range(TRIES):
         try:
             return put(plan)
-        except (Rotten, LogBehind, FileNotFoundError):
-            time.sleep(PAUSE)
-    try:
-        return put(plan)
-    except (Rotten, LogBehind) as error:
-        why = f"the log in {folder_of(plan)} is refused, {type(error).__name__}: {error}"
-    except NotThere as error:
-        why = str(error)
-    except OSError as error:
-        why = f"{error.filename or getattr(plan, 'file', folder_of(plan))}: {error.strerror or error}"
-    except (NodeEnded, Refused) as error:
-        why = f"the node ended, or refused: {error}"
+        except (Rotten, LogBehind) as error:
+            why = f"the log in {folder_of(plan)} is refused, {type(error).__name__}: {error}"
+        except NotThere as error:
+            why = str(error)
+        except OSError as error:
+            why = f"{error.filename or getattr(plan, 'file', folder_of(plan))}: {error.strerror or error}"
+            if not isinstance(error, FileNotFoundError):
+                break
+        except (NodeEnded, Refused) as error:
+            why = f"the node ended, or refused: {error}"
+            break
+        time.sleep(PAUSE)
     print(f"remus-host: {why}", file=sys.stderr)
     return DAMAGED
 
