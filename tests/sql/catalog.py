@@ -76,7 +76,8 @@ REFUSED = [
     ("SELECT '{1}'::int[] = '{1}' FROM nowhere", "42P01"), (f"SELECT {'(' * 70}1::int{')' * 70}", "54001"),
     ("SELECT array_agg(x ORDER BY x) FROM generate_series(1, 5000) x", "54000"),
 ]
-# Queries of the kind that DBeaver and its driver send (written from memory: it wasn't there to be asked), and the first column's name and the values of two of the columns.
+# Queries of the kind that DBeaver and its driver send (written from memory: it wasn't there to be asked), and the first column's name
+# and the values of two of the columns.
 DBEAVER = [
     ("SELECT current_schema(), session_user", [("public", "anyone")]),
     ("SELECT db.oid,db.* FROM pg_catalog.pg_database db WHERE datname='db'", [(5, 5)]),
