@@ -155,7 +155,7 @@ class Connection:
             raise Closed(ended)
         return found
 
-    def rest(self):
+    def rest(self) -> list[tuple[int, bytes, bytes]]:
         """The messages that came behind others, now that those are heard. Raises Malformed."""
         return messages.taken(self.came, self.most)
 

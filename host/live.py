@@ -569,7 +569,7 @@ class Live:
 
     # Attachments.
 
-    def protect(self, now, is_spent=False):
+    def protect(self, now: float, is_spent: bool = False) -> None:
         """A full checkpoint is cut, for a standby, a log or a file: the next generation begins. It is a spent one where no other host has
         anything of it, as of a file."""
         answer = self.node.ask("protect")

@@ -1,6 +1,7 @@
 """What two hosts say when they meet, and what follows. Who isn't live dials, and says HELLO; who is live answers OFFER, RESUME, OVER or NO.
 A standby that was offered an attachment makes itself ready for it, and says READY; only then is the full checkpoint cut."""
 import secrets
+from typing import Any
 
 from host import messages
 from host.backoff import Backoff
@@ -82,7 +83,7 @@ class Meeting:
 
     # A live host's side.
 
-    def refuse(self, connection, why, level="info", session=NO_SESSION, **more):
+    def refuse(self, connection: Connection, why: str, level: str = "info", session: bytes = NO_SESSION, **more: Any) -> None:
         told = messages.told(NO, session, why=why, role=self.host.role, name=self.host.settings.name, **more)
         self.link.refuse(connection, told, why, level)
 

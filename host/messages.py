@@ -75,7 +75,7 @@ def follow(session: bytes, generation: int, number: int, later: int, after: byte
     return message(FOLLOW, session, FOLLOWED.pack(generation, number, later, after))
 
 
-def taken(buffer, most):
+def taken(buffer: bytearray, most: int) -> list[tuple[int, bytes, bytes]]:
     """The messages that are whole in a bytearray, which then has the rest: triples of kind, session and body. Where that begins with a longer
     one it is Malformed, once nothing stands before it: by what does, longer ones may be due."""
     found, at, end = [], 0, len(buffer)
